@@ -1,0 +1,4 @@
+pub mod Proper
+pub mod Periods
+pub mod WellFormed
+pub mod EvenSizes

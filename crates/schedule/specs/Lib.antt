@@ -1,0 +1,2 @@
+pub mod Schedules
+pub mod Rules

@@ -1,0 +1,46 @@
+// The numbers of document 01's refusals, by name. The definitions in `specs/` give the numbers.
+
+// Reading a specification; LIMITS and ORDER begin every operation that is given one.
+pub const MAP: u32 = 1;
+
+pub const LENGTH: u32 = 2;
+
+pub const LIMITS: u32 = 3;
+
+pub const ORDER: u32 = 4;
+
+// Consistency, schedules for k reports, the test.
+pub const RATE_ABSENT: u32 = 5;
+
+pub const NO_SCHEDULE: u32 = 6;
+
+pub const INCONSISTENT: u32 = 7;
+
+pub const NO_COUNT: u32 = 8;
+
+pub const NOT_PASSED: u32 = 9;
+
+// The even plan; minute and size of a report.
+pub const NO_EVEN_PLAN: u32 = 10;
+
+pub const NOT_PROPER: u32 = 11;
+
+// Checking a cycle; reading and writing one begins with COUNT too.
+pub const COUNT: u32 = 12;
+
+pub const GAP: u32 = 13;
+
+pub const SIZE: u32 = 14;
+
+pub const TOO_FULL: u32 = 15;
+
+pub const TOO_THIN: u32 = 16;
+
+// Reading and writing a cycle file.
+pub const PAIR_MAP: u32 = 17;
+
+pub const CUT: u32 = 18;
+
+pub const REPEATED: u32 = 19;
+
+pub const PLACES: u32 = 20;
