@@ -1,0 +1,4 @@
+pub mod Cycles
+pub mod Check
+pub mod Windows
+pub mod Statements

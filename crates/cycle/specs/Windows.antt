@@ -1,0 +1,68 @@
+-- What the inner functions of the check say of one another: a window of neighbouring reports that moves over the endless run. None
+-- of it stands in the contract of a function that others call.
+use Prim.Native.Nat.{ℕ, _+_, _-_, _*_, _/_, _≤_, _<_}
+use mathlib.Core.Path.{_≡_}
+use mathlib.Core.Bool.{Bool}
+use mathlib.Core.List.{List}
+use lib.Dec.{leb}
+use lib.ListN.{length}
+use Rattle.pairs.specs.declared.Pair.{Pair}
+use Rattle.pairs.specs.Pairs.{pairsOf}
+use Rattle.schedule.specs.Schedules.{Schedule, sum, minute, stretch}
+use Rattle.cycle.specs.declared.Report.{Report}
+use Rattle.cycle.specs.declared.Round.{Round}
+use Rattle.cycle.specs.declared.Rule.{Rule}
+use Rattle.cycle.specs.declared.Rule.the-variants.{AtMost, AtLeast}
+use Rattle.cycle.specs.declared.Window.{Window}
+use Rattle.cycle.specs.Cycles.{cycleRun, round, roundRecords}
+use Rattle.cycle.specs.Check.{all}
+
+-- the endless run of the pairs that a flat list holds
+abbrev pub runOf : List ℕ → Schedule
+runOf l = cycleRun (pairsOf l)
+
+-- a flat list that holds 1 to 512 pairs, none with a gap of 0
+pub record Walkable (l : List ℕ) : Type 0 where
+  pub some : 1 ≤ length l / 2
+  pub few : length l / 2 ≤ 512
+  pub later : (i : ℕ) → 1 ≤ runOf l .gap i
+
+-- x is report i of the schedule, in numbers of 16 bits
+pub record IsReport (s : Schedule) (i : ℕ) (x : Report) : Type 0 where
+  pub gap : x .gap ≡ s .gap i
+  pub size : x .size ≡ s .size i
+  pub gap-fits : x .gap ≤ 65535
+  pub size-fits : x .size ≤ 65535
+
+-- x is the minutes and the records of one round
+pub record IsRound (ps : List Pair) (x : Round) : Type 0 where
+  pub minutes : x .minutes ≡ round ps
+  pub records : x .records ≡ roundRecords ps
+  pub records-fit : x .records ≤ 65535 * 512
+
+-- The window holds the reports from `first` up to but not including `past`: the minutes between those two, and the records that it
+-- holds. None of the reports before `past` is v minutes or more after report `first`.
+pub record Holds (s : Schedule) (v : ℕ) (w : Window) : Type 0 where
+  pub forward : w .first ≤ w .past
+  pub minutes : minute s (w .past) ≡ minute s (w .first) + w .minutes
+  pub records : sum (s .size) (w .past) ≡ sum (s .size) (w .first) + w .records
+  pub inside : (i : ℕ) → i < w .past → minute s i < minute s (w .first) + v
+  pub minutes-fit : w .minutes ≤ 65535 * w .past
+  pub records-fit : w .records ≤ 65535 * w .past
+
+-- the window with one report more at its end, with its first report left out
+abbrev pub withReport : Window → Report → Window
+withReport w x = record { first = w .first; past = w .past + 1; minutes = w .minutes + x .gap; records = w .records + x .size }
+
+abbrev pub withoutReport : Window → Report → Window
+withoutReport w x = record { first = w .first + 1; past = w .past; minutes = w .minutes - x .gap; records = w .records - x .size }
+
+-- What a rule asks of minutes that start with a report of the given size and hold so many records. AtMost: they hold at most b.
+-- AtLeast: the minutes after the first of them hold at least l.
+abbrev pub passes : Rule → ℕ → ℕ → Bool
+passes (AtMost b) held size = leb held b
+passes (AtLeast l) held size = leb (l + size) held
+
+-- the rule passes at each report of one round, for the w minutes that start there
+unfoldable pub startsPass : Rule → ℕ → List Pair → Bool
+startsPass rule w ps = all (λ i. passes rule (stretch (cycleRun ps) (minute (cycleRun ps) i) w) (cycleRun ps .size i)) (length ps)
