@@ -9,6 +9,7 @@ use lib.ListN.{length}
 use Rattle.pairs.specs.declared.Pair.{Pair}
 use Rattle.pairs.specs.Pairs.{pairsOf}
 use Rattle.schedule.specs.Schedules.{Schedule, sum, minute, stretch}
+use Rattle.cycle.specs.declared.Parts.{Parts}
 use Rattle.cycle.specs.declared.Report.{Report}
 use Rattle.cycle.specs.declared.Round.{Round}
 use Rattle.cycle.specs.declared.Rule.{Rule}
@@ -39,6 +40,14 @@ pub record IsRound (ps : List Pair) (x : Round) : Type 0 where
   pub minutes : x .minutes ≡ round ps
   pub records : x .records ≡ roundRecords ps
   pub records-fit : x .records ≤ 65535 * 512
+
+-- x is m minutes in two parts: whole rounds, and from 1 minute to one round left over. From any start the m minutes hold what the
+-- rounds hold, and what the minutes left over hold.
+pub record IsParts (ps : List Pair) (m : ℕ) (x : Parts) : Type 0 where
+  pub adds : (a : ℕ) → stretch (cycleRun ps) a m ≡ x .rounds + stretch (cycleRun ps) a (x .rest)
+  pub some : 1 ≤ x .rest
+  pub short : x .rest ≤ round ps
+  pub rounds-fit : x .rounds ≤ 65535 * (65535 * 512)
 
 -- The window holds the reports from `first` up to but not including `past`: the minutes between those two, and the records that it
 -- holds. None of the reports before `past` is v minutes or more after report `first`.

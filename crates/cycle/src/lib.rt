@@ -10,14 +10,15 @@ use spec::SpecRead;
 
 ghost use mathlib.Core.Path.{_≡_};
 ghost use mathlib.Core.List.{List};
-ghost use Prim.Native.Nat.{ℕ, _+_, _*_, _/_, _<_, _≤_};
+ghost use mathlib.Core.Bool.{true};
+ghost use Prim.Native.Nat.{ℕ, _+_, _*_, _/_, _%_, _<_, _≤_};
 ghost use lib.ListN.{length, take};
 ghost use Rattle.spec.specs.Limits.{rateLimits};
 ghost use Rattle.spec.specs.File.{readSpec};
 ghost use Rattle.pairs.specs.Pairs.{pairsOf, unpacked};
 ghost use Rattle.cycle.specs.Check.{gapsAllowed, sizesAllowed, supplyKept, demandMet, checkNumber, checkFileNumber};
 ghost use Rattle.cycle.specs.Cycles.{round};
-ghost use Rattle.cycle.specs.Windows.{runOf, Walkable, IsReport, IsRound, Holds, withReport, withoutReport, passes, startsPass};
+ghost use Rattle.cycle.specs.Windows.{runOf, Walkable, IsReport, IsRound, IsParts, Holds, withReport, withoutReport, passes, startsPass};
 
 // One report: its size, and the gap to the next.
 struct Report {
@@ -31,10 +32,16 @@ struct Round {
     records: u64,
 }
 
+// A number of minutes: the records that its whole rounds hold, and the minutes left over.
+struct Parts {
+    rounds: u64,
+    rest: u64,
+}
+
 // What is asked of the stretches that start at a report.
 enum Rule {
-    AtMost(u64),
-    AtLeast(u64),
+    AtMost(u16),
+    AtLeast(u16),
 }
 
 // The reports from number `first` up to, not including, number `past`: the minutes from the one to the other, and the records held.
@@ -79,13 +86,21 @@ fn wide(x: u16) -> u64
     x as u64
 }
 
+// The place in its round of report i, one of the first two rounds.
+fn place(i: usize, count: usize) -> usize
+    requires { ⌜ i < 2 * count ⌝ }
+    ensures { λ r. ⌜ (r ≡ i % count) × (r < count) ⌝ }
+{
+    if i < count { i } else { i - count }
+}
+
 // Report i of the endless repetition, one of its first two rounds.
-fn report(words: &[u16], i: usize) -> Report
+fn report_at(words: &[u16], i: usize) -> Report
     requires { ⌜ (i < 2 * (length (now words) / 2)) × (length (now words) / 2 ≤ 512) ⌝ }
     ensures { λ r. ⌜ IsReport (runOf (now (words .entry))) i r ⌝ }
 {
     let count = words.len() / 2;
-    let j = if i < count { i } else { i - count };
+    let j = place(i, count);
     Report {
         gap: wide(words[2 * j]),
         size: wide(words[2 * j + 1]),
@@ -102,7 +117,7 @@ fn round_of(words: &[u16]) -> Round
     let mut records: u64 = 0;
     let mut i: usize = 0;
     while i < count {
-        let x = report(words, i);
+        let x = report_at(words, i);
         minutes += x.gap;
         records += x.size;
         i += 1;
@@ -118,7 +133,7 @@ fn filled(words: &[u16], window: Window, v: u64) -> Window
     let mut w = window;
     while w.minutes < v {
         let past = w.past;
-        w = w.with(report(words, past));
+        w = w.with(report_at(words, past));
     }
     w
 }
@@ -128,7 +143,123 @@ fn rule_passes(rule: Rule, held: u64, size: u64) -> bool
     ensures { λ r. ⌜ r ≡ passes rule held size ⌝ }
 {
     match rule {
-        Rule::AtMost(b) => held <= b,
-        Rule::AtLeast(l) => l + size <= held,
+        Rule::AtMost(b) => held <= wide(b),
+        Rule::AtLeast(l) => wide(l) + size <= held,
     }
+}
+
+// The whole rounds in so many minutes, all but the last of them, so that 1 minute or more is left over.
+fn parts_of(words: &[u16], minutes: u64) -> Parts
+    requires { ⌜ Walkable (now words) × (1 ≤ minutes) × (minutes ≤ 65536) ⌝ }
+    ensures { λ r. ⌜ IsParts (pairsOf (now (words .entry))) minutes r ⌝ }
+{
+    let round = round_of(words);
+    Parts {
+        rounds: (minutes - 1) / round.minutes * round.records,
+        rest: (minutes - 1) % round.minutes + 1,
+    }
+}
+
+// Whether the rule passes at each report of one round, for the stretches of `minutes` minutes that start there.
+fn starts_pass(words: &[u16], rule: Rule, minutes: u64) -> bool
+    requires { ⌜ Walkable (now words) × (1 ≤ minutes) × (minutes ≤ 65536) ⌝ }
+    ensures { λ r. ⌜ r ≡ startsPass rule minutes (pairsOf (now (words .entry))) ⌝ }
+{
+    let count = words.len() / 2;
+    let parts = parts_of(words, minutes);
+    let mut w = Window {
+        first: 0,
+        past: 0,
+        minutes: 0,
+        records: 0,
+    };
+    while w.first < count {
+        w = filled(words, w, parts.rest);
+        let x = report_at(words, w.first);
+        if !rule_passes(rule, parts.rounds + w.records, x.size) {
+            return false;
+        }
+        w = w.without(x);
+    }
+    true
+}
+
+fn supply_kept(rate: Rate, words: &[u16]) -> bool
+    requires { ⌜ Walkable (now words) × (rateLimits rate ≡ true) ⌝ }
+    ensures { λ r. ⌜ r ≡ supplyKept rate (pairsOf (now (words .entry))) ⌝ }
+{
+    match rate {
+        Rate::Absent => true,
+        Rate::Present { records, minutes } => starts_pass(words, Rule::AtMost(records), wide(minutes)),
+    }
+}
+
+// The thinnest stretches start one minute after a report: one minute more from the report on, less the report.
+fn demand_met(rate: Rate, words: &[u16]) -> bool
+    requires { ⌜ Walkable (now words) ⌝ }
+    ensures { λ r. ⌜ r ≡ demandMet rate (pairsOf (now (words .entry))) ⌝ }
+{
+    match rate {
+        Rate::Absent => true,
+        Rate::Present { records, minutes } => starts_pass(words, Rule::AtLeast(records), wide(minutes) + 1),
+    }
+}
+
+fn gaps_allowed(spec: Spec, words: &[u16]) -> bool
+    requires { ⌜ length (now words) / 2 ≤ 512 ⌝ }
+    ensures { λ r. ⌜ r ≡ gapsAllowed spec (pairsOf (now (words .entry))) ⌝ }
+{
+    let count = words.len() / 2;
+    let mut j: usize = 0;
+    while j < count {
+        if !spec::gap_allowed(spec, words[2 * j]) {
+            return false;
+        }
+        j += 1;
+    }
+    true
+}
+
+fn sizes_allowed(spec: Spec, words: &[u16]) -> bool
+    requires { ⌜ length (now words) / 2 ≤ 512 ⌝ }
+    ensures { λ r. ⌜ r ≡ sizesAllowed spec (pairsOf (now (words .entry))) ⌝ }
+{
+    let count = words.len() / 2;
+    let mut j: usize = 0;
+    while j < count {
+        if !spec::size_allowed(spec, words[2 * j + 1]) {
+            return false;
+        }
+        j += 1;
+    }
+    true
+}
+
+// The number of a cycle that is held flat: gap, size, gap, size, ..
+pub fn check(spec: Spec, words: &[u16]) -> u32
+    ensures { λ r. ⌜ r ≡ checkNumber spec (pairsOf (now (words .entry))) ⌝ }
+{
+    let refused = spec::spec_number(spec);
+    if refused != 0 {
+        return refused;
+    }
+    let count = words.len() / 2;
+    if !((1 <= count) & (count <= pairs::MOST_PAIRS)) {
+        return refusal::COUNT;
+    }
+    if !gaps_allowed(spec, words) {
+        return refusal::GAP;
+    }
+    if !sizes_allowed(spec, words) {
+        return refusal::SIZE;
+    }
+    let supply = spec.supply;
+    if !supply_kept(supply, words) {
+        return refusal::TOO_FULL;
+    }
+    let demand = spec.demand;
+    if !demand_met(demand, words) {
+        return refusal::TOO_THIN;
+    }
+    0
 }

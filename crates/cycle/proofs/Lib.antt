@@ -1,0 +1,3 @@
+pub mod Runs
+pub mod MovingWindow
+pub mod Starts

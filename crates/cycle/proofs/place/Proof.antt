@@ -1,0 +1,17 @@
+use borrow.Author.Needs.{needs}
+use native.Mathlib.Omega.{arith}
+use mathlib.Core.Path.{sym}
+use Rattle.cycle.proofs.Runs.{first-turn, second-turn}
+use Rattle.cycle.proofs.place.Statement.{statement}
+use Rattle.cycle.proofs.place.Tie as tie
+use Rattle.cycle.proofs.place.Reads as reads
+use Rattle.cycle.proofs.place.Lts as lts
+
+returns : tie.Need-returns
+returns c = (sym (first-turn _ _ (c .if1 .taken)), search needs)
+
+returns-2 : tie.Need-returns-2
+returns-2 c = (sym (second-turn _ _ (c .if1 .left) (omega arith)), search needs)
+
+pub place-spec : {M : Type 1} → statement M
+place-spec = tie.close (tie.spec returns returns-2)

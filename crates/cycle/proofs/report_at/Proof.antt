@@ -1,0 +1,66 @@
+use mathlib.Core.Path.{sym, _∙_}
+use Rattle.cycle.proofs.Runs.{flat-gap, flat-size}
+use borrow.Author.Needs.{needs}
+use Rattle.cycle.proofs.report_at.Statement.{statement}
+use Rattle.cycle.proofs.report_at.Tie as tie
+use Rattle.cycle.proofs.report_at.Reads as reads
+use Rattle.cycle.proofs.report_at.Lts as lts
+use Rattle.cycle.proofs.place.Reads as place-reads
+use Rattle.cycle.proofs.wide.Reads as wide-reads
+
+place-requires : tie.Need-place-requires
+place-requires c κs = search needs
+
+mul-wide : tie.Need-mul-wide
+mul-wide c = search needs
+
+mul-wide-2 : tie.Need-mul-wide-2
+mul-wide-2 c = search needs
+
+shared-slice-read-wide : tie.Need-shared-slice-read-wide
+shared-slice-read-wide c = search needs
+
+wide-requires : tie.Need-wide-requires
+wide-requires c κs = search needs
+
+mul-wide-3 : tie.Need-mul-wide-3
+mul-wide-3 c = search needs
+
+add-wide : tie.Need-add-wide
+add-wide c = search needs
+
+mul-wide-4 : tie.Need-mul-wide-4
+mul-wide-4 c = search needs
+
+shared-slice-read-wide-2 : tie.Need-shared-slice-read-wide-2
+shared-slice-read-wide-2 c = search needs
+
+wide-requires-2 : tie.Need-wide-requires-2
+wide-requires-2 c κs = search needs
+
+returns : tie.Need-returns
+returns c = 
+    let l = c .before .before .before .before .before .before .args .words .now in
+    let p = c .before .before .before .before .place .ensures in
+    record {
+      gap = c .before .before .wide .ensures .0 ∙ sym (flat-gap l _ _ (p .1) (sym (p .0)));
+      size = c .wide2 .ensures .0 ∙ sym (flat-size l _ _ (p .1) (sym (p .0)));
+      gap-fits = search needs;
+      size-fits = search needs;
+    }
+
+pub report-at-spec : {M : Type 1} → statement M
+report-at-spec =
+    tie.close
+    (tie.spec
+    place-requires
+    mul-wide
+    mul-wide-2
+    shared-slice-read-wide
+    wide-requires
+    mul-wide-3
+    add-wide
+    mul-wide-4
+    shared-slice-read-wide-2
+    wide-requires-2
+    returns)

@@ -1,0 +1,40 @@
+use mathlib.Core.Path.{_≡_, refl, sym, _∙_, ap}
+use borrow.Author.Needs.{needs}
+use Rattle.cycle.proofs.rule_passes.Statement.{statement}
+use Rattle.cycle.proofs.rule_passes.Tie as tie
+use Rattle.cycle.proofs.rule_passes.Reads as reads
+use Rattle.cycle.proofs.rule_passes.Lts as lts
+use Rattle.cycle.proofs.wide.Reads as wide-reads
+
+enum-known-rule : tie.Need-enum-known-rule
+enum-known-rule c = search needs
+
+wide-requires : tie.Need-wide-requires
+wide-requires c κs = search needs
+
+enum-known-rule-2 : tie.Need-enum-known-rule-2
+enum-known-rule-2 c = search needs
+
+wide-requires-2 : tie.Need-wide-requires-2
+wide-requires-2 c κs = search needs
+
+add-result : tie.Need-add-result
+add-result c = search needs
+
+returns : tie.Need-returns
+returns c = cc
+
+returns-2 : tie.Need-returns-2
+returns-2 c = cc
+
+pub rule-passes-spec : {M : Type 1} → statement M
+rule-passes-spec =
+    tie.close
+    (tie.spec
+    enum-known-rule
+    wide-requires
+    enum-known-rule-2
+    wide-requires-2
+    add-result
+    returns
+    returns-2)
