@@ -48,7 +48,7 @@ module _ (s : Schedule) (v : ℕ) where
     first-inside r q =
         let e : w .past ≡ w .first + 1 + (w .past - (w .first + 1)) = omega arith in
         let k : sum (s .size) (w .past) ≡ sum (s .size) (w .first + 1) + block (s .size) (w .first + 1) (w .past - (w .first + 1)) =
-            ap (sum (s .size)) e ∙ sum-add (s .size) (w .first + 1) (w .past - (w .first + 1)) in
+        ap (sum (s .size)) e ∙ sum-add (s .size) (w .first + 1) (w .past - (w .first + 1)) in
         (omega (arith, minute-mono s (w .first + 1) (w .past) (omega arith), minute-more s (w .first)), omega (arith, k, sum-more (s .size) (w .first)))
 
     pub holds-without : IsReport s (w .first) x → w .first < w .past → Holds s v (withoutReport w x)
@@ -84,7 +84,7 @@ module _ (s : Schedule) (v : ℕ) where
     holds-stretch r =
         let e : w .first + (w .past - w .first) ≡ w .past = omega arith in
         let k : sum (s .size) (w .past) ≡ sum (s .size) (w .first) + block (s .size) (w .first) (w .past - w .first) =
-            rw e at (sum-add (s .size) (w .first) (w .past - w .first)) in
+        rw e at (sum-add (s .size) (w .first) (w .past - w .first)) in
         let b : w .records ≡ block (s .size) (w .first) (w .past - w .first) = omega arith in
         b ∙ sym (stretch-block s (minute s (w .first)) v (w .first) (w .past) before (until r) past-least)
 

@@ -6,11 +6,14 @@ use native.Mathlib.Nat.{mod-add-div', div-le-self, mul-le-mul}
 use mathlib.Core.Path.{_≡_, refl, sym, _∙_, ap}
 use mathlib.Core.Logic.{_↔_}
 use mathlib.Core.List.{List}
-use mathlib.Core.Bool.{Bool, true, false}
+use mathlib.Core.Bool.{Bool, true, false, and-eq-true-iff}
 use lib.Dec.{leb}
 use lib.ListN.{length}
 use borrow.Author.Tests.{le-leb, leb-true}
+use Rattle.spec.specs.declared.Rate.{Rate}
 use Rattle.spec.specs.declared.Rate.the-variants.{Present}
+use Rattle.spec.specs.Limits.{rateLimits}
+use Rattle.spec.proofs.Facts.{leb-iff}
 use Rattle.pairs.specs.declared.Pair.{Pair}
 use Rattle.schedule.specs.Schedules.{Schedule, sum, minute, stretch}
 use Rattle.schedule.proofs.Sums.{block-one}
@@ -22,6 +25,11 @@ use Rattle.cycle.specs.Cycles.{pairGap, pairSize, cycleRun, round, round
 use Rattle.cycle.specs.Check.{all, supplyKept, demandMet}
 use Rattle.cycle.specs.Windows.{passes, startsPass}
 use Rattle.cycle.proofs.Runs.{all-right, gap-again, size-again, supply-right, demand-right}
+
+-- the minutes of a rate within its limits
+pub minutes-some : (rate : Rate) {b m : ℕ} → rate ≡ Present b m → rateLimits rate ≡ true → 1 ≤ m
+unfolding rateLimits
+minutes-some rate e h = let k = simp (and-eq-true-iff, leb-iff) at (rw e at h) in omega arith
 
 -- two tests are equal where they pass together
 same-test : (a b : Bool) → (a ≡ true) ↔ (b ≡ true) → a ≡ b
@@ -69,7 +77,7 @@ module _ (ps : List Pair) (some : 1 ≤ length ps) (later : (i : ℕ) → 1 ≤ 
       let z : a + (w - 1) ≡ a + r + q * t = omega (arith, mod-add-div' (w - 1) t) in
       let whole : stretch s a (w - 1) ≡ q * sum (s .size) (length ps) + stretch s a r = stretch-whole s later (length ps) (size-again ps) (gap-again ps) a (w - 1) in
       let last : stretch s (a + (w - 1)) 1 ≡ stretch s (a + r) 1 =
-          ap (λ (x : ℕ). stretch s x 1) z ∙ stretch-rounds s later (length ps) (size-again ps) (gap-again ps) (a + r) q 1 in
+      ap (λ (x : ℕ). stretch s x 1) z ∙ stretch-rounds s later (length ps) (size-again ps) (gap-again ps) (a + r) q 1 in
       let left : stretch s a (w - 1 + 1) ≡ stretch s a (w - 1) + stretch s (a + (w - 1)) 1 = stretch-add s later a (w - 1) 1 in
       let right : stretch s a (r + 1) ≡ stretch s a r + stretch s (a + r) 1 = stretch-add s later a r 1 in
       ap (stretch s a) e ∙ omega (arith, whole, last, left, right)

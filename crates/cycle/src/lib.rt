@@ -4,10 +4,9 @@
 use pairs::Flat;
 use pairs::Pair;
 use spec::Rate;
-use spec::refusal;
 use spec::Spec;
 use spec::SpecRead;
-
+use spec::refusal;
 ghost use mathlib.Core.Path.{_≡_};
 ghost use mathlib.Core.List.{List};
 ghost use mathlib.Core.Bool.{true};
@@ -190,7 +189,11 @@ fn supply_kept(rate: Rate, words: &[u16]) -> bool
 {
     match rate {
         Rate::Absent => true,
-        Rate::Present { records, minutes } => starts_pass(words, Rule::AtMost(records), wide(minutes)),
+        Rate::Present { records, minutes } => starts_pass(
+            words,
+            Rule::AtMost(records),
+            wide(minutes),
+        ),
     }
 }
 
@@ -201,7 +204,11 @@ fn demand_met(rate: Rate, words: &[u16]) -> bool
 {
     match rate {
         Rate::Absent => true,
-        Rate::Present { records, minutes } => starts_pass(words, Rule::AtLeast(records), wide(minutes) + 1),
+        Rate::Present { records, minutes } => starts_pass(
+            words,
+            Rule::AtLeast(records),
+            wide(minutes) + 1,
+        ),
     }
 }
 

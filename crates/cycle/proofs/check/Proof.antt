@@ -1,3 +1,15 @@
+use Rattle.cycle.specs.Windows.{Walkable}
+use Rattle.cycle.specs.Check.{countAllowed, gapsAllowed, sizesAllowed, supplyKept}
+use Rattle.spec.specs.Limits.{IsAccepted, between}
+use lib.ListN.{length}
+use mathlib.Core.Bool.{true}
+use Prim.Native.Nat.{_/_}
+use native.Mathlib.Omega.{arith}
+use mathlib.Core.Path.{_≡_, sym, _∙_}
+use Rattle.pairs.specs.Pairs.{pairsOf}
+use borrow.Author.Tests.{not-true, not-false}
+use Rattle.spec.proofs.Facts.{facts, between-iff}
+use Rattle.cycle.proofs.Steps.{count-flat, gets-refused, gets-12, gets-13, gets-14, gets-15, gets-16, gets-0, walkable}
 use borrow.Author.Needs.{needs}
 use Rattle.cycle.proofs.check.Statement.{statement}
 use Rattle.cycle.proofs.check.Tie as tie
@@ -9,53 +21,74 @@ use Rattle.cycle.proofs.sizes_allowed.Reads as sizes-allowed-reads
 use Rattle.cycle.proofs.supply_kept.Reads as supply-kept-reads
 use Rattle.spec.proofs.spec_number.Reads as spec-number-reads
 
--- src/lib.rt:229:9
+-- what each test says that was passed on the way
+accepted : (c : tie.Else1) → IsAccepted (c .before .before .before .args .spec)
+accepted c = sym (c .before .spec-number .ensures) ∙ c .if1 .left
+
+counted : (c : tie.Else2) → between 1 512 (length (c .before .before .before .before .args .words .now) / 2) ≡ true
+counted c = not-false _ (c .if2 .left)
+
+gaps : (c : tie.Else3) → gapsAllowed (c .before .before .before .before .before .before .args .spec) (pairsOf (c .before .before .before .before .before .before .args .words .now)) ≡ true
+gaps c = sym (c .before .gaps-allowed .ensures) ∙ not-false _ (c .if3 .left)
+
+sizes : (c : tie.Else4) → sizesAllowed (c .before .before .before .before .before .before .before .before .args .spec) (pairsOf (c .before .before .before .before .before .before .before .before .args .words .now)) ≡ true
+sizes c = sym (c .before .sizes-allowed .ensures) ∙ not-false _ (c .if4 .left)
+
+walks : (c : tie.Else3) → Walkable (c .before .before .before .before .before .before .args .words .now)
+walks c = walkable _ _ (accepted (c .before .before .before)) (counted (c .before .before)) (gaps c)
+
+some-count : (c : tie.Else2) → countAllowed (pairsOf (c .before .before .before .before .args .words .now)) ≡ true
+some-count c = sym (count-flat (c .before .before .before .before .args .words .now)) ∙ counted c
+
 spec-number-requires : tie.Need-spec-number-requires
 spec-number-requires c κs = search needs
 
--- src/lib.rt:231:9
 returns : tie.Need-returns
-returns c = ?
+returns c = c .before .spec-number .ensures ∙ gets-refused _ _ (λ e. c .if1 .taken (c .before .spec-number .ensures ∙ e))
 
--- src/lib.rt:235:9
 returns-2 : tie.Need-returns-2
-returns-2 c = ?
+returns-2 c = gets-12 _ _ (accepted (c .before)) (sym (count-flat (c .before .before .before .before .args .words .now)) ∙ not-true _ (c .if2 .taken))
 
--- src/lib.rt:237:9
 gaps-allowed-requires : tie.Need-gaps-allowed-requires
-gaps-allowed-requires c κs = ?
+gaps-allowed-requires c κs = between-iff _ _ _ .0 (counted c) .1
 
--- src/lib.rt:238:9
 returns-3 : tie.Need-returns-3
-returns-3 c = ?
+returns-3 c = gets-13 _ _ (accepted (c .before .before .before)) (some-count (c .before .before)) (sym (c .before .gaps-allowed .ensures) ∙ not-true _ (c .if3 .taken))
 
--- src/lib.rt:240:9
 sizes-allowed-requires : tie.Need-sizes-allowed-requires
-sizes-allowed-requires c κs = ?
+sizes-allowed-requires c κs = walks c .few
 
--- src/lib.rt:241:9
 returns-4 : tie.Need-returns-4
-returns-4 c = ?
+returns-4 c =
+    let passed = c .before .before in
+    gets-14 _ _ (accepted (passed .before .before .before)) (some-count (passed .before .before)) (gaps passed) (sym (c .before .sizes-allowed .ensures) ∙ not-true _ (c .if4 .taken))
 
--- src/lib.rt:244:9
 supply-kept-requires : tie.Need-supply-kept-requires
-supply-kept-requires c κs = ?
+supply-kept-requires c κs = (walks (c .before .before), facts _ (accepted (c .before .before .before .before .before)) .supply)
 
--- src/lib.rt:245:9
 returns-5 : tie.Need-returns-5
-returns-5 c = ?
+returns-5 c =
+    let passed = c .before .before in
+    gets-15 _ _ (accepted (passed .before .before .before .before .before)) (some-count (passed .before .before .before .before)) (gaps (passed .before .before)) (sizes passed)
+    (sym (c .before .supply-kept .ensures) ∙ not-true _ (c .if5 .taken))
 
--- src/lib.rt:248:9
+supply : (c : tie.Else5) → supplyKept (c .before .before .before .before .before .before .before .before .before .before .args .spec .supply) (pairsOf (c .before .before .before .before .before .before .before .before .before .before .args .words .now)) ≡ true
+supply c = sym (c .before .supply-kept .ensures) ∙ not-false _ (c .if5 .left)
+
 demand-met-requires : tie.Need-demand-met-requires
-demand-met-requires c κs = ?
+demand-met-requires c κs = walks (c .before .before .before .before)
 
--- src/lib.rt:249:9
 returns-6 : tie.Need-returns-6
-returns-6 c = ?
+returns-6 c =
+    let passed = c .before .before in
+    gets-16 _ _ (accepted (passed .before .before .before .before .before .before .before)) (some-count (passed .before .before .before .before .before .before)) (gaps (passed .before .before .before .before)) (sizes (passed .before .before)) (supply passed)
+    (sym (c .before .demand-met .ensures) ∙ not-true _ (c .if6 .taken))
 
--- src/lib.rt:226:1
 returns-7 : tie.Need-returns-7
-returns-7 c = ?
+returns-7 c =
+    let passed = c .before .before in
+    gets-0 _ _ (accepted (passed .before .before .before .before .before .before .before)) (some-count (passed .before .before .before .before .before .before)) (gaps (passed .before .before .before .before)) (sizes (passed .before .before)) (supply passed)
+    (sym (c .before .demand-met .ensures) ∙ not-false _ (c .if6 .left))
 
 pub check-spec : {M : Type 1} → statement M
 check-spec =

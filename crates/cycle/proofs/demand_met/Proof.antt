@@ -1,3 +1,9 @@
+use Rattle.pairs.specs.Pairs.{pairsOf}
+use mathlib.Core.Path.{sym, _∙_}
+use native.Mathlib.Omega.{arith}
+use Rattle.pairs.proofs.FlatLists.{length-pairsOf}
+use Rattle.cycle.specs.Check.{demandMet}
+use Rattle.cycle.proofs.Starts.{minutes-some, demand-starts}
 use borrow.Author.Needs.{needs}
 use Rattle.cycle.proofs.demand_met.Statement.{statement}
 use Rattle.cycle.proofs.demand_met.Tie as tie
@@ -6,33 +12,31 @@ use Rattle.cycle.proofs.demand_met.Lts as lts
 use Rattle.cycle.proofs.starts_pass.Reads as starts-pass-reads
 use Rattle.cycle.proofs.wide.Reads as wide-reads
 
--- src/lib.rt:190:25
 enum-told : tie.Need-enum-told
 enum-told c = search needs
 
--- src/lib.rt:191:25
 enum-known-rate : tie.Need-enum-known-rate
 enum-known-rate c = search needs
 
--- src/lib.rt:191:90
 wide-requires : tie.Need-wide-requires
 wide-requires c κs = search needs
 
--- src/lib.rt:191:90
 add-starts-pass : tie.Need-add-starts-pass
 add-starts-pass c = search needs
 
--- src/lib.rt:191:47
 starts-pass-requires : tie.Need-starts-pass-requires
-starts-pass-requires c κs = search needs
+starts-pass-requires c κs = (c .before .before .before .before .before .pre, search needs, search needs)
 
--- src/lib.rt:185:1
 returns : tie.Need-returns
-returns c = ?
+unfolding demandMet
+returns c = cc
 
--- src/lib.rt:185:1
 returns-2 : tie.Need-returns-2
-returns-2 c = ?
+returns-2 c =
+    let l = c .before .before .before .before .before .before .args .words .now in
+    let ok = c .before .before .before .before .before .before .pre in
+    let answer = demand-starts (pairsOf l) (omega (arith, length-pairsOf l, ok .some)) (ok .later) _ _ in
+    c .starts-pass .ensures ∙ rw (c .before .wide .ensures .0, c .before .before .before .rate .given .1) answer
 
 pub demand-met-spec : {M : Type 1} → statement M
 demand-met-spec =

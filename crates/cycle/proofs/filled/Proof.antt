@@ -21,23 +21,23 @@ loop-holds : tie.Need-loop-holds Inv-loop μ-loop
 loop-holds c = (refl, c .before .pre .3)
 
 report-at-requires : tie.Need-report-at-requires Inv-loop μ-loop
-report-at-requires c κs = 
+report-at-requires c κs =
     let start = c .before .before .before .before in
     (next-place (start .args .words .now) _ (omega arith) (start .pre .2) (c .before .before .loop .inv .1) (omega arith), start .pre .0 .few)
 
 with-requires : tie.Need-with-requires Inv-loop μ-loop
-with-requires c κs = 
+with-requires c κs =
     let start = c .before .before .before .before .before in
     let p = next-place (start .args .words .now) _ (omega arith) (start .pre .2) (c .before .before .before .loop .inv .1) (omega arith) in
     (omega arith, omega arith, omega arith, omega arith, omega arith)
 
 loop-less : tie.Need-loop-less Inv-loop μ-loop
-loop-less c = 
+loop-less c =
     let start = c .before .before .before .before .before .before in
     rw (c .with .ensures) (omega (arith, start .pre .0 .later (c .before .before .before .before .loop .w .past)))
 
 loop-again : tie.Need-loop-again Inv-loop μ-loop
-loop-again c = 
+loop-again c =
     rw (c .with .ensures) (c .before .before .before .before .loop .inv .0, holds-with _ _ (c .before .before .before .before .loop .inv .1) (c .before .report-at .ensures) (omega arith))
 
 returns : tie.Need-returns Inv-loop μ-loop

@@ -42,7 +42,7 @@ add-t9 : tie.Need-add-t9
 add-t9 c = record { fits = omega (arith, mod-le (c .before .before .before .before .before .args .minutes - 1) (c .before .before .before .round-of .result .minutes)) }
 
 returns : tie.Need-returns
-returns c = 
+returns c =
     let l = c .before .before .before .before .before .args .words .now in
     let ok = c .before .before .before .before .before .pre .0 in
     let r = c .before .before .before .round-of .ensures in

@@ -39,7 +39,7 @@ wide-requires-2 : tie.Need-wide-requires-2
 wide-requires-2 c κs = search needs
 
 returns : tie.Need-returns
-returns c = 
+returns c =
     let l = c .before .before .before .before .before .before .args .words .now in
     let p = c .before .before .before .before .place .ensures in
     record {

@@ -45,7 +45,7 @@ loop-again c = (search needs, rw (minute-more _ _) (omega arith), rw (sum-more _
 
 returns : tie.Need-returns Inv-loop μ-loop
 unfolding round roundRecords
-returns c = 
+returns c =
     let l = c .before .before .before .args .words .now in
     let e : c .before .loop .i ≡ length (pairsOf l) = omega (arith, length-pairsOf l) in
     record {

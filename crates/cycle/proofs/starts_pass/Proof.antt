@@ -44,7 +44,7 @@ report-at-requires : tie.Need-report-at-requires Inv-loop μ-loop
 report-at-requires c κs = (omega arith, c .before .before .before .before .before .before .pre .0 .few)
 
 add-rule-passes : tie.Need-add-rule-passes Inv-loop μ-loop
-add-rule-passes c = 
+add-rule-passes c =
     let p = past-fits (c .before .before .before .before .before .before .before .before .before .args .words .now) _ (omega arith) (c .before .before .before .before .before .before .before .parts-of .ensures .short) (c .before .before .before .filled .ensures .2) (c .before .before .before .before .before .before .before .before .before .pre .0 .few) in
     record { fits = omega arith }
 
@@ -53,13 +53,13 @@ rule-passes-requires c κs = search needs
 
 returns : tie.Need-returns Inv-loop μ-loop
 unfolding startsPass
-returns c = 
+returns c =
     let l = c .before .before .before .before .before .before .before .before .before .before .before .args .words .now in
     let here = passes-here l (c .before .before .before .before .before .before .before .before .before .before .before .pre .0) _ (c .before .before .before .before .before .before .before .before .before .parts-of .ensures) (c .before .before .before .before .before .filled .ensures .2) (c .before .before .before .before .before .filled .ensures .1) (c .before .before .before .before .before .before .before .before .before .before .before .args .rule) (c .before .before .before .before .report-at .ensures) in
     one-fails _ _ (c .before .before .before .before .before .filled .result .first) (omega (arith, length-pairsOf l)) (sym here ∙ sym (c .before .rule-passes .ensures) ∙ not-true _ (c .if2 .taken))
 
 without-requires : tie.Need-without-requires Inv-loop μ-loop
-without-requires c κs = 
+without-requires c κs =
     let there = first-there _ (c .before .before .before .before .before .before .before .before .before .before .before .pre .0) _ (c .before .before .before .before .before .before .before .before .before .parts-of .ensures) (c .before .before .before .before .before .filled .ensures .2) (c .before .before .before .before .before .filled .ensures .1) in
     let k = first-inside _ _ (c .before .before .before .before .before .filled .ensures .2) (c .before .before .before .before .report-at .ensures) there in
     (omega arith, k .0, k .1)
@@ -68,7 +68,7 @@ loop-less : tie.Need-loop-less Inv-loop μ-loop
 loop-less c = rw (c .without .ensures) (omega arith)
 
 loop-again : tie.Need-loop-again Inv-loop μ-loop
-loop-again c = 
+loop-again c =
     let l = c .before .before .before .before .before .before .before .before .before .before .before .before .args .words .now in
     let there = first-there _ (c .before .before .before .before .before .before .before .before .before .before .before .before .pre .0) _ (c .before .before .before .before .before .before .before .before .before .before .parts-of .ensures) (c .before .before .before .before .before .before .filled .ensures .2) (c .before .before .before .before .before .before .filled .ensures .1) in
     let here = passes-here l (c .before .before .before .before .before .before .before .before .before .before .before .before .pre .0) _ (c .before .before .before .before .before .before .before .before .before .before .parts-of .ensures) (c .before .before .before .before .before .before .filled .ensures .2) (c .before .before .before .before .before .before .filled .ensures .1) (c .before .before .before .before .before .before .before .before .before .before .before .before .args .rule) (c .before .before .before .before .before .report-at .ensures) in

@@ -1,3 +1,9 @@
+use Rattle.pairs.specs.Pairs.{pairsOf}
+use mathlib.Core.Path.{sym, _∙_}
+use native.Mathlib.Omega.{arith}
+use Rattle.pairs.proofs.FlatLists.{length-pairsOf}
+use Rattle.cycle.specs.Check.{supplyKept}
+use Rattle.cycle.proofs.Starts.{minutes-some, supply-starts}
 use borrow.Author.Needs.{needs}
 use Rattle.cycle.proofs.supply_kept.Statement.{statement}
 use Rattle.cycle.proofs.supply_kept.Tie as tie
@@ -6,29 +12,28 @@ use Rattle.cycle.proofs.supply_kept.Lts as lts
 use Rattle.cycle.proofs.starts_pass.Reads as starts-pass-reads
 use Rattle.cycle.proofs.wide.Reads as wide-reads
 
--- src/lib.rt:179:25
 enum-told : tie.Need-enum-told
 enum-told c = search needs
 
--- src/lib.rt:180:25
 enum-known-rate : tie.Need-enum-known-rate
 enum-known-rate c = search needs
 
--- src/lib.rt:180:89
 wide-requires : tie.Need-wide-requires
 wide-requires c κs = search needs
 
--- src/lib.rt:180:47
 starts-pass-requires : tie.Need-starts-pass-requires
-starts-pass-requires c κs = ?
+starts-pass-requires c κs = (c .before .before .before .before .before .pre .0, omega (arith, minutes-some _ (c .before .before .rate .given .1) (c .before .before .before .before .before .pre .1)), search needs)
 
--- src/lib.rt:174:1
 returns : tie.Need-returns
-returns c = ?
+unfolding supplyKept
+returns c = cc
 
--- src/lib.rt:174:1
 returns-2 : tie.Need-returns-2
-returns-2 c = ?
+returns-2 c =
+    let l = c .before .before .before .before .before .before .args .words .now in
+    let ok = c .before .before .before .before .before .before .pre .0 in
+    let answer = supply-starts (pairsOf l) (omega (arith, length-pairsOf l, ok .some)) (ok .later) _ _ in
+    c .starts-pass .ensures ∙ rw (c .before .wide .ensures .0, c .before .before .before .rate .given .1) answer
 
 pub supply-kept-spec : {M : Type 1} → statement M
 supply-kept-spec =
