@@ -114,22 +114,22 @@ module _ (spec : Spec) (ps : List Pair) (some : 1 ≤ length ps) where
 pub passed-obeys : PassedObeys
 unfolding countAllowed
 passed-obeys spec ps accepted some few = (
-      λ e.
-          let t = cycle-said spec ps .is-0 (sym (gets-cycle spec ps accepted) ∙ e) in
-          let g = gaps-right spec ps some .0 (t .0) in
-          let later : (i : ℕ) → 1 ≤ cycleRun ps .gap i = λ i. gap-allowed-pos spec (cycleRun ps .gap i) accepted (g i) in
-          record {
-            sizes = sizes-right spec ps some .0 (t .1);
-            gaps = g;
-            supply = supply-right ps some later (spec .supply) .0 (t .2);
-            demand = demand-right ps some later (spec .demand) .0 (t .3);
-          },
-      λ o.
-          let later : (i : ℕ) → 1 ≤ cycleRun ps .gap i = λ i. gap-allowed-pos spec (cycleRun ps .gap i) accepted (o .gaps i) in
-          sym
-          (gets-0 spec ps accepted (rw (le-leb 1 (length ps) some, le-leb (length ps) 512 few))
-          (gaps-right spec ps some .1 (o .gaps))
-          (sizes-right spec ps some .1 (o .sizes))
-          (supply-right ps some later (spec .supply) .1 (o .supply))
-          (demand-right ps some later (spec .demand) .1 (o .demand))),
-    )
+  λ e.
+      let t = cycle-said spec ps .is-0 (sym (gets-cycle spec ps accepted) ∙ e) in
+      let g = gaps-right spec ps some .0 (t .0) in
+      let later : (i : ℕ) → 1 ≤ cycleRun ps .gap i = λ i. gap-allowed-pos spec (cycleRun ps .gap i) accepted (g i) in
+      record {
+        sizes = sizes-right spec ps some .0 (t .1);
+        gaps = g;
+        supply = supply-right ps some later (spec .supply) .0 (t .2);
+        demand = demand-right ps some later (spec .demand) .0 (t .3);
+      },
+  λ o.
+      let later : (i : ℕ) → 1 ≤ cycleRun ps .gap i = λ i. gap-allowed-pos spec (cycleRun ps .gap i) accepted (o .gaps i) in
+      sym
+      (gets-0 spec ps accepted (rw (le-leb 1 (length ps) some, le-leb (length ps) 512 few))
+      (gaps-right spec ps some .1 (o .gaps))
+      (sizes-right spec ps some .1 (o .sizes))
+      (supply-right ps some later (spec .supply) .1 (o .supply))
+      (demand-right ps some later (spec .demand) .1 (o .demand))),
+)

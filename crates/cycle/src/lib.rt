@@ -14,6 +14,7 @@ ghost use Prim.Native.Nat.{ℕ, _+_, _*_, _/_, _%_, _<_, _≤_};
 ghost use lib.ListN.{length, take};
 ghost use Rattle.spec.specs.Limits.{rateLimits};
 ghost use Rattle.spec.specs.File.{readSpec};
+ghost use Rattle.pairs.specs.declared.Pair.{Pair};
 ghost use Rattle.pairs.specs.Pairs.{pairsOf, unpacked};
 ghost use Rattle.cycle.specs.Check.{gapsAllowed, sizesAllowed, supplyKept, demandMet, checkNumber, checkFileNumber};
 ghost use Rattle.cycle.specs.Cycles.{round};
@@ -269,4 +270,44 @@ pub fn check(spec: Spec, words: &[u16]) -> u32
         return refusal::TOO_THIN;
     }
     0
+}
+
+// The same of the first `count` pairs that an array holds.
+fn check_words(spec: Spec, words: &[u16; 1024], count: usize) -> u32
+    requires { ⌜ count ≤ 512 ⌝ }
+    ensures { λ r. ⌜ r ≡ checkNumber spec (pairsOf (take (2 * count) (now (words .entry)))) ⌝ }
+{
+    let whole = &words[..];
+    check(spec, &whole[..2 * count])
+}
+
+// The number of the list of pairs that was unpacked. Of too many pairs none are laid flat, and none get the same number.
+fn check_unpacked(spec: Spec, flat: Flat) -> u32
+    ensures { λ r. ⌜ ((ps : List Pair) → flat ≡ unpacked ps → r ≡ checkNumber spec ps) ⌝ }
+{
+    let count = flat.count;
+    let words = flat.words;
+    if pairs::MOST_PAIRS < count {
+        return check_words(spec, &words, 0);
+    }
+    check_words(spec, &words, count)
+}
+
+// The same, given a specification's file: only an accepted specification goes on.
+fn check_unpacked_file(spec_bytes: &[u8], flat: Flat) -> u32
+    ensures { λ r. ⌜ ((ps : List Pair) → flat ≡ unpacked ps → r ≡ checkFileNumber (readSpec (now («spec_bytes» .entry))) ps) ⌝ }
+{
+    let read = spec::read_spec(spec_bytes);
+    let SpecRead::Accepted(accepted) = read else {
+        return spec::read_number(read);
+    };
+    check_unpacked(accepted, flat)
+}
+
+// The number of a lent list of pairs against a specification's file, for C.
+#[no_mangle]
+pub extern "C" fn maxeltu_check_cycle(spec_bytes: &[u8], pairs: &[Pair]) -> u32
+    ensures { λ r. ⌜ r ≡ checkFileNumber (readSpec (now («spec_bytes» .entry))) (now (pairs .entry)) ⌝ }
+{
+    check_unpacked_file(spec_bytes, pairs::unpack(pairs))
 }
