@@ -1,7 +1,7 @@
 -- The check's number against the four rules: 0 exactly where the endless run obeys them, and a witness for each number after 12.
 use Prim.Native.Nat.{ℕ, zero, suc, _≤_, _<_}
 use native.Mathlib.Omega.{arith}
-use mathlib.Core.Path.{_≡_, refl, sym, _∙_, ap}
+use mathlib.Core.Path.{_≡_, refl, sym, _∙_}
 use mathlib.Core.Logic.{_↔_}
 use mathlib.Core.List.{List}
 use mathlib.Core.Bool.{Bool, true, false, cond}
@@ -15,7 +15,6 @@ use Rattle.spec.specs.Limits.{limits, order, specNumber, sizeAllowed, gapAllowe
 use Rattle.spec.proofs.Facts.{gap-allowed-pos}
 use Rattle.pairs.specs.declared.Pair.{Pair}
 use Rattle.schedule.specs.Schedules.{stretch}
-use Rattle.schedule.specs.Rules.{Obeys}
 use Rattle.cycle.specs.Cycles.{pairGap, pairSize, cycleRun, round}
 use Rattle.cycle.specs.Check.{all, countAllowed, gapsAllowed, sizesAllowed, supplyKept, demandMet, cycleNumber, checkNumber}
 use Rattle.cycle.specs.Statements.{PassedObeys, TooFull, TooThin, Witness13, Witness14, Witness15, Witness16}
@@ -23,24 +22,28 @@ use Rattle.cycle.proofs.Runs.{all-right, gap-at, size-at, all-gaps, all
 use Rattle.cycle.proofs.Steps.{gets-cycle, gets-0}
 
 -- which tests passed and which failed, by the number
-record Said (n : ℕ) (count gaps sizes supply demand : Bool) : Type 0 where
+record Said (n : ℕ) (gaps sizes supply demand : Bool) : Type 0 where
   is-0 : n ≡ 0 → (gaps ≡ true) × (sizes ≡ true) × (supply ≡ true) × (demand ≡ true)
   is-13 : n ≡ 13 → gaps ≡ false
   is-14 : n ≡ 14 → sizes ≡ false
   is-15 : n ≡ 15 → supply ≡ false
   is-16 : n ≡ 16 → demand ≡ false
 
-said : (a b c d e : Bool) → Said (cond a (cond b (cond c (cond d (cond e 0 16) 15) 14) 13) 12) a b c d e
-said true true true true true = record { is-0 = λ h. (refl, refl, refl, refl); is-13 = λ h. absurd (omega arith); is-14 = λ h. absurd (omega arith); is-15 = λ h. absurd (omega arith); is-16 = λ h. absurd (omega arith) }
-said true true true true false = record { is-0 = λ h. absurd (omega arith); is-13 = λ h. absurd (omega arith); is-14 = λ h. absurd (omega arith); is-15 = λ h. absurd (omega arith); is-16 = λ h. refl }
-said true true true false e = record { is-0 = λ h. absurd (omega arith); is-13 = λ h. absurd (omega arith); is-14 = λ h. absurd (omega arith); is-15 = λ h. refl; is-16 = λ h. absurd (omega arith) }
-said true true false d e = record { is-0 = λ h. absurd (omega arith); is-13 = λ h. absurd (omega arith); is-14 = λ h. refl; is-15 = λ h. absurd (omega arith); is-16 = λ h. absurd (omega arith) }
-said true false c d e = record { is-0 = λ h. absurd (omega arith); is-13 = λ h. refl; is-14 = λ h. absurd (omega arith); is-15 = λ h. absurd (omega arith); is-16 = λ h. absurd (omega arith) }
-said false b c d e = record { is-0 = λ h. absurd (omega arith); is-13 = λ h. absurd (omega arith); is-14 = λ h. absurd (omega arith); is-15 = λ h. absurd (omega arith); is-16 = λ h. absurd (omega arith) }
+-- a number is no other
+no : {A : Type 0} (n m : ℕ) → (n ≡ m → ⊥) → n ≡ m → A
+no n m h e = absurd (h e)
 
-cycle-said : (spec : Spec) (ps : List Pair) → Said (cycleNumber spec ps) (countAllowed ps) (gapsAllowed spec ps) (sizesAllowed spec ps) (supplyKept (spec .supply) ps) (demandMet (spec .demand) ps)
+said : (a b c d e : Bool) → Said (cond a (cond b (cond c (cond d (cond e 0 16) 15) 14) 13) 12) b c d e
+said true true true true true = record { is-0 = λ h. (refl, refl, refl, refl); is-13 = no 0 13 (omega arith); is-14 = no 0 14 (omega arith); is-15 = no 0 15 (omega arith); is-16 = no 0 16 (omega arith) }
+said true true true true false = record { is-0 = no 16 0 (omega arith); is-13 = no 16 13 (omega arith); is-14 = no 16 14 (omega arith); is-15 = no 16 15 (omega arith); is-16 = λ h. refl }
+said true true true false e = record { is-0 = no 15 0 (omega arith); is-13 = no 15 13 (omega arith); is-14 = no 15 14 (omega arith); is-15 = λ h. refl; is-16 = no 15 16 (omega arith) }
+said true true false d e = record { is-0 = no 14 0 (omega arith); is-13 = no 14 13 (omega arith); is-14 = λ h. refl; is-15 = no 14 15 (omega arith); is-16 = no 14 16 (omega arith) }
+said true false c d e = record { is-0 = no 13 0 (omega arith); is-13 = λ h. refl; is-14 = no 13 14 (omega arith); is-15 = no 13 15 (omega arith); is-16 = no 13 16 (omega arith) }
+said false b c d e = record { is-0 = no 12 0 (omega arith); is-13 = no 12 13 (omega arith); is-14 = no 12 14 (omega arith); is-15 = no 12 15 (omega arith); is-16 = no 12 16 (omega arith) }
+
+cycle-said : (spec : Spec) (ps : List Pair) → Said (cycleNumber spec ps) (gapsAllowed spec ps) (sizesAllowed spec ps) (supplyKept (spec .supply) ps) (demandMet (spec .demand) ps)
 unfolding cycleNumber
-cycle-said spec ps = said _ _ _ _ _
+cycle-said spec ps = said (countAllowed ps) _ _ _ _
 
 -- where all fail to pass, one fails
 witness : (f : ℕ → Bool) (n : ℕ) → all f n ≡ false → (j : ℕ) × ((j < n) × (f j ≡ false))

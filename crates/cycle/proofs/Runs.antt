@@ -2,7 +2,7 @@
 use Prim.Native.Nat.{ℕ, zero, suc, _+_, _-_, _*_, _/_, _%_, _≤_, _<_}
 use native.Mathlib.Omega.{arith}
 use native.Mathlib.Nat.{add-mod-right, mod-eq-of-lt, mod-lt}
-use mathlib.Core.Path.{_≡_, refl, sym, _∙_, ap}
+use mathlib.Core.Path.{_≡_, refl, _∙_, ap}
 use mathlib.Core.Logic.{_↔_, ⊎-elim}
 use mathlib.Core.List.{List}
 use mathlib.Core.Bool.{Bool, true, false}
@@ -14,7 +14,7 @@ use Rattle.spec.specs.declared.Rate.the-variants.{Absent, Present}
 use Rattle.pairs.specs.declared.Pair.{Pair}
 use Rattle.pairs.specs.Pairs.{pairsOf}
 use Rattle.pairs.proofs.FlatLists.{length-pairsOf, gap-pairsOf, size-pairsOf}
-use Rattle.schedule.specs.Schedules.{Schedule, sum, minute, stretch}
+use Rattle.schedule.specs.Schedules.{stretch}
 use Rattle.schedule.specs.Rules.{SupplyKept, DemandMet}
 use Rattle.schedule.proofs.Sums.{lt-cases}
 use Rattle.schedule.proofs.Before.{minute-least}

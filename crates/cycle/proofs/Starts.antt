@@ -1,8 +1,8 @@
 -- The starts at which a check lays its stretches: the supply rule is kept everywhere exactly when it is kept at the reports of one
 -- round, the demand rule exactly when it is kept one minute after each of them; and the whole rounds in a stretch are a product.
-use Prim.Native.Nat.{ℕ, _+_, _-_, _*_, _/_, _%_, _≤_, _<_}
+use Prim.Native.Nat.{ℕ, _+_, _-_, _*_, _/_, _%_, _^_, _≤_, _<_}
 use native.Mathlib.Omega.{arith}
-use native.Mathlib.Nat.{mod-add-div', div-le-self, mul-le-mul}
+use native.Mathlib.Nat.{mod-add-div', div-le-self, le-trans, mul-le-mul}
 use mathlib.Core.Path.{_≡_, refl, sym, _∙_, ap}
 use mathlib.Core.Logic.{_↔_}
 use mathlib.Core.List.{List}
@@ -19,11 +19,10 @@ use Rattle.schedule.specs.Schedules.{Schedule, sum, minute, stretch}
 use Rattle.schedule.proofs.Sums.{block-one}
 use Rattle.schedule.proofs.Before.{stretch-before, before-minute, before-next, stretch-add}
 use Rattle.schedule.proofs.Repeats.{stretch-rounds, stretch-whole, full-at-report, thin-after-report}
-use Rattle.cycle.specs.declared.Rule.{Rule}
 use Rattle.cycle.specs.declared.Rule.the-variants.{AtMost, AtLeast}
-use Rattle.cycle.specs.Cycles.{pairGap, pairSize, cycleRun, round, roundRecords}
+use Rattle.cycle.specs.Cycles.{cycleRun, round, roundRecords}
 use Rattle.cycle.specs.Check.{all, supplyKept, demandMet}
-use Rattle.cycle.specs.Windows.{passes, startsPass}
+use Rattle.cycle.specs.Windows.{startsPass}
 use Rattle.cycle.proofs.Runs.{all-right, gap-again, size-again, supply-right, demand-right}
 
 -- the minutes of a rate within its limits
@@ -60,8 +59,11 @@ module _ (s : Schedule) (later : (i : ℕ) → 1 ≤ s .gap i) where
       rw (e, stretch-add s later (minute s i) 1 w, stretch-one i)
 
 -- the records of whole rounds, at most 65,535 of them
-pub rounds-fit : (m t d : ℕ) → m ≤ 65536 → d ≤ 65535 * 512 → (m - 1) / t * d ≤ 65535 * (65535 * 512)
-rounds-fit m t d h k = let q : (m - 1) / t ≤ 65535 = omega (arith, div-le-self (m - 1) t) in mul-le-mul q k
+pub rounds-most : (m t d : ℕ) → m ≤ 65535 → d ≤ 65535 * 512 → m / t * d ≤ 65535 * (65535 * 512)
+rounds-most m t d h k = mul-le-mul (le-trans (div-le-self m t) h) k
+
+pub rounds-fit : (m t d : ℕ) → m ≤ 65535 → d ≤ 65535 * 512 → m / t * d < 2 ^ 64
+rounds-fit m t d h k = omega (arith, rounds-most m t d h k)
 
 module _ (ps : List Pair) (some : 1 ≤ length ps) (later : (i : ℕ) → 1 ≤ cycleRun ps .gap i) where
   -- the whole rounds of all minutes but the last one, so that 1 minute or more is left over

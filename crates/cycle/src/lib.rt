@@ -8,15 +8,13 @@ use spec::Spec;
 use spec::SpecRead;
 use spec::refusal;
 ghost use mathlib.Core.Path.{_≡_};
-ghost use mathlib.Core.List.{List};
 ghost use mathlib.Core.Bool.{true};
 ghost use Prim.Native.Nat.{ℕ, _+_, _*_, _/_, _%_, _<_, _≤_};
 ghost use lib.ListN.{length, take};
 ghost use Rattle.spec.specs.Limits.{rateLimits};
 ghost use Rattle.spec.specs.File.{readSpec};
-ghost use Rattle.pairs.specs.declared.Pair.{Pair};
-ghost use Rattle.pairs.specs.Pairs.{pairsOf, unpacked};
-ghost use Rattle.cycle.specs.Check.{gapsAllowed, sizesAllowed, supplyKept, demandMet, checkNumber, checkFileNumber};
+ghost use Rattle.pairs.specs.Pairs.{pairsOf};
+ghost use Rattle.cycle.specs.Check.{gapsAllowed, sizesAllowed, supplyKept, demandMet, checkNumber, flatPairs, checkFileNumber};
 ghost use Rattle.cycle.specs.Cycles.{round};
 ghost use Rattle.cycle.specs.Windows.{runOf, Walkable, IsReport, IsRound, IsParts, Holds, withReport, withoutReport, passes, startsPass};
 
@@ -281,9 +279,9 @@ fn check_words(spec: Spec, words: &[u16; 1024], count: usize) -> u32
     check(spec, &whole[..2 * count])
 }
 
-// The number of the list of pairs that was unpacked. Of too many pairs none are laid flat, and none get the same number.
-fn check_unpacked(spec: Spec, flat: Flat) -> u32
-    ensures { λ r. ⌜ ((ps : List Pair) → flat ≡ unpacked ps → r ≡ checkNumber spec ps) ⌝ }
+// The same of a list of pairs that was unpacked. Of too many pairs none are laid flat, and none get the same number.
+pub fn check_unpacked(spec: Spec, flat: Flat) -> u32
+    ensures { λ r. ⌜ r ≡ checkNumber spec (flatPairs flat) ⌝ }
 {
     let count = flat.count;
     let words = flat.words;
@@ -294,8 +292,8 @@ fn check_unpacked(spec: Spec, flat: Flat) -> u32
 }
 
 // The same, given a specification's file: only an accepted specification goes on.
-fn check_unpacked_file(spec_bytes: &[u8], flat: Flat) -> u32
-    ensures { λ r. ⌜ ((ps : List Pair) → flat ≡ unpacked ps → r ≡ checkFileNumber (readSpec (now («spec_bytes» .entry))) ps) ⌝ }
+pub fn check_unpacked_file(spec_bytes: &[u8], flat: Flat) -> u32
+    ensures { λ r. ⌜ r ≡ checkFileNumber (readSpec (now («spec_bytes» .entry))) (flatPairs flat) ⌝ }
 {
     let read = spec::read_spec(spec_bytes);
     let SpecRead::Accepted(accepted) = read else {

@@ -1,24 +1,23 @@
+-- `check_unpacked` meets its contract: of at most 512 pairs all are laid flat, and more get the number of none.
 use native.Mathlib.Omega.{arith}
-use mathlib.Core.Path.{_∙_}
-use Rattle.cycle.proofs.FlatForms.{too-many, as-many}
+use mathlib.Core.Path.{sym, _∙_, ap}
 use borrow.Author.Needs.{needs}
+use Rattle.cycle.specs.Check.{checkNumber}
+use Rattle.cycle.proofs.FlatForms.{flat-none, flat-all}
 use Rattle.cycle.proofs.check_unpacked.Statement.{statement}
 use Rattle.cycle.proofs.check_unpacked.Tie as tie
-use Rattle.cycle.proofs.check_unpacked.Reads as reads
-use Rattle.cycle.proofs.check_unpacked.Lts as lts
-use Rattle.cycle.proofs.check_words.Reads as check-words-reads
 
 check-words-requires : tie.Need-check-words-requires
 check-words-requires c κs = search needs
 
 returns : tie.Need-returns
-returns c = λ ps e. c .check-words .ensures ∙ too-many _ _ ps e (omega arith)
+returns c = c .check-words .ensures ∙ ap (checkNumber _) (sym (flat-none _ (omega arith)))
 
 check-words-requires-2 : tie.Need-check-words-requires-2
 check-words-requires-2 c κs = search needs
 
 returns-2 : tie.Need-returns-2
-returns-2 c = λ ps e. c .check-words2 .ensures ∙ as-many _ _ ps e (omega arith)
+returns-2 c = c .check-words2 .ensures ∙ ap (checkNumber _) (sym (flat-all _ (omega arith)))
 
 pub check-unpacked-spec : {M : Type 1} → statement M
 check-unpacked-spec =

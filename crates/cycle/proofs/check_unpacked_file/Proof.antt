@@ -1,13 +1,9 @@
-use mathlib.Core.Path.{_∙_, sym}
-use Rattle.cycle.proofs.FlatForms.{read-refused, read-accepted}
+-- `check_unpacked_file` meets its contract, by what reading the specification gave.
+use mathlib.Core.Path.{_∙_}
 use borrow.Author.Needs.{needs}
+use Rattle.cycle.proofs.FlatForms.{read-refused, read-accepted}
 use Rattle.cycle.proofs.check_unpacked_file.Statement.{statement}
 use Rattle.cycle.proofs.check_unpacked_file.Tie as tie
-use Rattle.cycle.proofs.check_unpacked_file.Reads as reads
-use Rattle.cycle.proofs.check_unpacked_file.Lts as lts
-use Rattle.cycle.proofs.check_unpacked.Reads as check-unpacked-reads
-use Rattle.spec.proofs.read_number.Reads as read-number-reads
-use Rattle.spec.proofs.read_spec.Reads as read-spec-reads
 
 read-spec-requires : tie.Need-read-spec-requires
 read-spec-requires c κs = search needs
@@ -22,13 +18,13 @@ read-number-requires : tie.Need-read-number-requires
 read-number-requires c κs = search needs
 
 returns : tie.Need-returns
-returns c = λ ps e. rw (← c .before .before .before .read-spec .ensures) (c .read-number .ensures ∙ read-refused ps (c .before .enum-told .given .1))
+returns c = rw (← c .before .before .before .read-spec .ensures) (c .read-number .ensures ∙ read-refused _ (c .before .enum-told .given .1))
 
 check-unpacked-requires : tie.Need-check-unpacked-requires
 check-unpacked-requires c κs = search needs
 
 returns-2 : tie.Need-returns-2
-returns-2 c = λ ps e. rw (← c .before .before .before .before .read-spec .ensures) (c .check-unpacked .ensures ps e ∙ read-accepted ps (c .before .before .read .given .1))
+returns-2 c = rw (← c .before .before .before .before .read-spec .ensures) (c .check-unpacked .ensures ∙ read-accepted _ (c .before .before .read .given .1))
 
 pub check-unpacked-file-spec : {M : Type 1} → statement M
 check-unpacked-file-spec =

@@ -1,14 +1,12 @@
+-- `check_words` meets its contract: it lends the first 2 × count words.
 use Prim.Native.Nat.{_*_}
-use mathlib.Core.Path.{sym, _∙_}
 use native.Mathlib.Omega.{arith}
 use native.Mathlib.Nat.{min-eq-left}
+use mathlib.Core.Path.{sym, _∙_}
 use lib.ListN.{length-take}
 use borrow.Author.Needs.{needs}
 use Rattle.cycle.proofs.check_words.Statement.{statement}
 use Rattle.cycle.proofs.check_words.Tie as tie
-use Rattle.cycle.proofs.check_words.Reads as reads
-use Rattle.cycle.proofs.check_words.Lts as lts
-use Rattle.cycle.proofs.check.Reads as check-reads
 
 mul-check : tie.Need-mul-check
 mul-check c = search needs

@@ -1,16 +1,13 @@
-use Rattle.pairs.specs.Pairs.{pairsOf}
-use mathlib.Core.Path.{sym, _∙_}
+-- `demand_met` meets its contract: the thinnest stretches start one minute after the reports of one round (`demand-starts`).
 use native.Mathlib.Omega.{arith}
+use mathlib.Core.Path.{_∙_}
+use borrow.Author.Needs.{needs}
+use Rattle.pairs.specs.Pairs.{pairsOf}
 use Rattle.pairs.proofs.FlatLists.{length-pairsOf}
 use Rattle.cycle.specs.Check.{demandMet}
-use Rattle.cycle.proofs.Starts.{minutes-some, demand-starts}
-use borrow.Author.Needs.{needs}
+use Rattle.cycle.proofs.Starts.{demand-starts}
 use Rattle.cycle.proofs.demand_met.Statement.{statement}
 use Rattle.cycle.proofs.demand_met.Tie as tie
-use Rattle.cycle.proofs.demand_met.Reads as reads
-use Rattle.cycle.proofs.demand_met.Lts as lts
-use Rattle.cycle.proofs.starts_pass.Reads as starts-pass-reads
-use Rattle.cycle.proofs.wide.Reads as wide-reads
 
 enum-told : tie.Need-enum-told
 enum-told c = search needs

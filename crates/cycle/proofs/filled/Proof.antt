@@ -1,15 +1,14 @@
-use Rattle.cycle.proofs.MovingWindow.{holds-with, next-place}
-use Prim.Native.Nat.{ℕ, _-_}
-use mathlib.Core.Path.{_≡_, refl, sym, _∙_, ap}
-use borrow.Author.Needs.{needs}
+-- `filled` meets its contract. The invariant: the window holds its reports, and its first report is the one that it started with. While it
+-- has not reached v minutes, the report at its end is before the end of those minutes, so it may be taken in; v is at most a round, so
+-- that report is one of the first two rounds. The measure is the minutes that are left: no gap is 0.
+use Prim.Native.Nat.{_-_}
 use native.Mathlib.Omega.{arith}
+use mathlib.Core.Path.{_≡_, refl}
+use borrow.Author.Needs.{needs}
 use Rattle.cycle.specs.Windows.{runOf, Holds}
+use Rattle.cycle.proofs.MovingWindow.{holds-with, next-place}
 use Rattle.cycle.proofs.filled.Statement.{statement}
 use Rattle.cycle.proofs.filled.Tie as tie
-use Rattle.cycle.proofs.filled.Reads as reads
-use Rattle.cycle.proofs.filled.Lts as lts
-use Rattle.cycle.proofs.Window.with.Reads as with-reads
-use Rattle.cycle.proofs.report_at.Reads as report-at-reads
 
 abbrev Inv-loop : tie.InvT-loop
 Inv-loop words v w₀ w = (w .first ≡ w₀ .first) × Holds (runOf words) v w

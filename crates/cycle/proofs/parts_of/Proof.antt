@@ -1,24 +1,21 @@
+-- `parts_of` meets its contract. No gap is 0, so a round has some minutes to divide by; with at most 65,536 minutes there are at most 65,535
+-- rounds, so their records fit. `stretch-parts` says that the two parts hold what the whole holds.
+use Prim.Native.Nat.{ℕ, _-_, _≤_, _<_}
+use native.Mathlib.Omega.{arith}
 use native.Mathlib.Nat.{mod-lt, mod-le}
 use mathlib.Core.List.{List}
-use Rattle.cycle.specs.Cycles.{round}
-use Rattle.cycle.specs.Windows.{Walkable}
-use Prim.Native.Nat.{ℕ, _+_, _-_, _/_, _%_, _≤_, _<_}
-use native.Mathlib.Omega.{arith}
-use mathlib.Core.Path.{_≡_, sym, _∙_}
+use borrow.Author.Needs.{needs}
 use Rattle.pairs.specs.Pairs.{pairsOf}
 use Rattle.pairs.proofs.FlatLists.{length-pairsOf}
+use Rattle.cycle.specs.Cycles.{round}
+use Rattle.cycle.specs.Windows.{Walkable}
 use Rattle.cycle.proofs.Runs.{round-some}
-use Rattle.cycle.proofs.Starts.{rounds-fit, stretch-parts}
-use borrow.Author.Needs.{needs}
+use Rattle.cycle.proofs.Starts.{rounds-most, rounds-fit, stretch-parts}
 use Rattle.cycle.proofs.parts_of.Statement.{statement}
 use Rattle.cycle.proofs.parts_of.Tie as tie
-use Rattle.cycle.proofs.parts_of.Reads as reads
-use Rattle.cycle.proofs.parts_of.Lts as lts
-use Rattle.cycle.proofs.round_of.Reads as round-of-reads
 
--- a round has some minutes
-minutes-some : (l : List ℕ) → Walkable l → 1 ≤ round (pairsOf l)
-minutes-some l ok = round-some (pairsOf l) (omega (arith, length-pairsOf l, ok .some)) (ok .later)
+some-minutes : (l : List ℕ) → Walkable l → 1 ≤ round (pairsOf l)
+some-minutes l ok = round-some (pairsOf l) (omega (arith, length-pairsOf l, ok .some)) (ok .later)
 
 round-of-requires : tie.Need-round-of-requires
 round-of-requires c κs = search needs
@@ -27,31 +24,32 @@ sub-t4 : tie.Need-sub-t4
 sub-t4 c = search needs
 
 div-t5 : tie.Need-div-t5
-div-t5 c = omega (arith, minutes-some _ (c .before .before .before .pre .0))
+div-t5 c = omega (arith, some-minutes _ (c .before .before .before .pre .0))
 
 mul-t6 : tie.Need-mul-t6
-mul-t6 c = record { fits = omega (arith, rounds-fit (c .before .before .before .before .args .minutes) (c .before .before .round-of .result .minutes) (c .before .before .round-of .result .records) (omega arith) (omega arith)) }
+mul-t6 c = record { fits = rounds-fit _ _ _ (omega arith) (omega arith) }
 
 sub-t7 : tie.Need-sub-t7
 sub-t7 c = search needs
 
 rem-t8 : tie.Need-rem-t8
-rem-t8 c = omega (arith, minutes-some _ (c .before .before .before .before .before .pre .0))
+rem-t8 c = omega (arith, some-minutes _ (c .before .before .before .before .before .pre .0))
 
 add-t9 : tie.Need-add-t9
 add-t9 c = record { fits = omega (arith, mod-le (c .before .before .before .before .before .args .minutes - 1) (c .before .before .before .round-of .result .minutes)) }
 
 returns : tie.Need-returns
 returns c =
-    let l = c .before .before .before .before .before .args .words .now in
-    let ok = c .before .before .before .before .before .pre .0 in
+    let start = c .before .before .before .before .before in
+    let l = start .args .words .now in
+    let ok = start .pre .0 in
     let r = c .before .before .before .round-of .ensures in
-    let minutes : 0 < c .before .before .before .round-of .result .minutes = omega (arith, minutes-some l ok) in
+    let some : 0 < c .before .before .before .round-of .result .minutes = omega (arith, some-minutes l ok) in
     record {
-      adds = λ a. rw (r .minutes, r .records) (stretch-parts (pairsOf l) (omega (arith, length-pairsOf l, ok .some)) (ok .later) a _ (c .before .before .before .before .before .pre .1));
+      adds = λ a. rw (r .minutes, r .records) (stretch-parts (pairsOf l) (omega (arith, length-pairsOf l, ok .some)) (ok .later) a _ (start .pre .1));
       some = omega arith;
-      short = omega (arith, mod-lt (c .before .before .before .before .before .args .minutes - 1) minutes);
-      rounds-fit = rounds-fit _ _ _ (omega arith) (omega arith);
+      short = omega (arith, mod-lt (start .args .minutes - 1) some);
+      rounds-fit = rounds-most _ _ _ (omega arith) (omega arith);
     }
 
 pub parts-of-spec : {M : Type 1} → statement M

@@ -1,11 +1,10 @@
-use borrow.Author.Needs.{needs}
+-- `place` meets its contract: i mod c is i in the first round, and i - c in the second.
 use native.Mathlib.Omega.{arith}
 use mathlib.Core.Path.{sym}
+use borrow.Author.Needs.{needs}
 use Rattle.cycle.proofs.Runs.{first-turn, second-turn}
 use Rattle.cycle.proofs.place.Statement.{statement}
 use Rattle.cycle.proofs.place.Tie as tie
-use Rattle.cycle.proofs.place.Reads as reads
-use Rattle.cycle.proofs.place.Lts as lts
 
 returns : tie.Need-returns
 returns c = (sym (first-turn _ _ (c .if1 .taken)), search needs)

@@ -1,12 +1,9 @@
+-- `report_at` meets its contract: report i has the gap and the size of its pair, which stand at two neighbouring places of the flat list.
 use mathlib.Core.Path.{sym, _∙_}
-use Rattle.cycle.proofs.Runs.{flat-gap, flat-size}
 use borrow.Author.Needs.{needs}
+use Rattle.cycle.proofs.Runs.{flat-gap, flat-size}
 use Rattle.cycle.proofs.report_at.Statement.{statement}
 use Rattle.cycle.proofs.report_at.Tie as tie
-use Rattle.cycle.proofs.report_at.Reads as reads
-use Rattle.cycle.proofs.report_at.Lts as lts
-use Rattle.cycle.proofs.place.Reads as place-reads
-use Rattle.cycle.proofs.wide.Reads as wide-reads
 
 place-requires : tie.Need-place-requires
 place-requires c κs = search needs

@@ -1,8 +1,9 @@
-use Prim.Native.Nat.{ℕ, _+_, _*_, _-_, _≤_, _<_}
-use mathlib.Core.Path.{_≡_, refl, sym, _∙_, ap}
-use borrow.Author.Needs.{needs}
+-- `round_of` meets its contract. The invariant: the minutes and the records of the first i reports, of which each has at most 65,535.
+use Prim.Native.Nat.{_*_, _-_, _≤_}
 use native.Mathlib.Omega.{arith}
+use mathlib.Core.Path.{_≡_, sym}
 use lib.ListN.{length}
+use borrow.Author.Needs.{needs}
 use Rattle.pairs.specs.Pairs.{pairsOf}
 use Rattle.pairs.proofs.FlatLists.{length-pairsOf}
 use Rattle.schedule.specs.Schedules.{sum, minute}
@@ -12,9 +13,6 @@ use Rattle.cycle.specs.Cycles.{round, roundRecords}
 use Rattle.cycle.specs.Windows.{runOf}
 use Rattle.cycle.proofs.round_of.Statement.{statement}
 use Rattle.cycle.proofs.round_of.Tie as tie
-use Rattle.cycle.proofs.round_of.Reads as reads
-use Rattle.cycle.proofs.round_of.Lts as lts
-use Rattle.cycle.proofs.report_at.Reads as report-at-reads
 
 abbrev Inv-loop : tie.InvT-loop
 Inv-loop words count minutes₀ records₀ i₀ minutes records i = (i ≤ count) × (minutes ≡ minute (runOf words) i) × (records ≡ sum (runOf words .size) i) × (minutes ≤ 65535 * i) × (records ≤ 65535 * i)

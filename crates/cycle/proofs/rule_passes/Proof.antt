@@ -1,10 +1,7 @@
-use mathlib.Core.Path.{_≡_, refl, sym, _∙_, ap}
+-- `rule_passes` meets its contract, case by case.
 use borrow.Author.Needs.{needs}
 use Rattle.cycle.proofs.rule_passes.Statement.{statement}
 use Rattle.cycle.proofs.rule_passes.Tie as tie
-use Rattle.cycle.proofs.rule_passes.Reads as reads
-use Rattle.cycle.proofs.rule_passes.Lts as lts
-use Rattle.cycle.proofs.wide.Reads as wide-reads
 
 enum-known-rule : tie.Need-enum-known-rule
 enum-known-rule c = search needs

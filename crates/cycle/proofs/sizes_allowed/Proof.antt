@@ -1,23 +1,20 @@
-use lib.ListN.{getD}
+-- `sizes_allowed` meets its contract. The invariant: every size passed is allowed.
+use Prim.Native.Nat.{ℕ, _-_, _≤_, _<_}
+use native.Mathlib.Omega.{arith}
+use mathlib.Core.Path.{_≡_, sym, _∙_}
+use mathlib.Core.Bool.{true}
 use borrow.Author.Count.{below-more}
 use borrow.Author.Tests.{not-true, not-false}
+use borrow.Author.Needs.{needs}
+use Rattle.spec.specs.Limits.{sizeAllowed}
 use Rattle.pairs.proofs.FlatLists.{length-pairsOf}
+use Rattle.pairs.specs.Pairs.{pairsOf}
 use Rattle.cycle.specs.Check.{sizesAllowed}
+use Rattle.cycle.specs.Cycles.{pairSize}
 use Rattle.cycle.proofs.Runs.{flat-pair-size}
 use Rattle.cycle.proofs.Starts.{all-pass, one-fails}
-use Rattle.spec.specs.Limits.{sizeAllowed}
-use Rattle.pairs.specs.Pairs.{pairsOf}
-use Rattle.cycle.specs.Cycles.{pairSize}
-use Prim.Native.Nat.{ℕ, _*_, _-_, _≤_, _<_}
-use mathlib.Core.Path.{_≡_, refl, sym, _∙_, ap}
-use borrow.Author.Needs.{needs}
-use native.Mathlib.Omega.{arith}
-use mathlib.Core.Bool.{true}
 use Rattle.cycle.proofs.sizes_allowed.Statement.{statement}
 use Rattle.cycle.proofs.sizes_allowed.Tie as tie
-use Rattle.cycle.proofs.sizes_allowed.Reads as reads
-use Rattle.cycle.proofs.sizes_allowed.Lts as lts
-use Rattle.spec.proofs.size_allowed.Reads as size-allowed-reads
 
 abbrev Inv-loop : tie.InvT-loop
 Inv-loop spec words count j₀ j = (j ≤ count) × ((i : ℕ) → i < j → sizeAllowed spec (pairSize (pairsOf words) i) ≡ true)

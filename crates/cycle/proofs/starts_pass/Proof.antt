@@ -1,27 +1,22 @@
-use mathlib.Core.Path.{sym, _∙_}
-use Rattle.pairs.specs.Pairs.{pairsOf}
-use Rattle.pairs.proofs.FlatLists.{length-pairsOf}
-use Rattle.cycle.specs.Windows.{startsPass}
-use Rattle.cycle.proofs.MovingWindow.{holds-none, holds-without, first-inside, first-there, passes-here, past-fits}
-use Rattle.cycle.proofs.Starts.{all-pass, one-fails}
-use borrow.Author.Count.{below-more}
-use borrow.Author.Tests.{not-true, not-false}
-use Prim.Native.Nat.{ℕ, _-_, _≤_, _<_}
+-- `starts_pass` meets its contract. The invariant: the window starts at report `first`, none of its reports is past the minutes left over,
+-- and the rule passed at every report before `first`. Once the window is filled, it holds what those minutes from report `first` hold, and
+-- with the whole rounds what all the minutes hold: so each turn judges the stretch that starts at its report. The window's first report
+-- is then let go; its end stays, for no stretch ends before the one that started a report earlier.
+use Prim.Native.Nat.{ℕ, _-_, _/_, _≤_, _<_}
 use native.Mathlib.Omega.{arith}
-use mathlib.Core.Path.{_≡_, refl, sym, _∙_, ap}
+use mathlib.Core.Path.{_≡_, sym, _∙_}
 use mathlib.Core.Bool.{true}
+use lib.ListN.{length}
+use borrow.Author.Count.{below-more}
 use borrow.Author.Needs.{needs}
+use borrow.Author.Tests.{not-true, not-false}
+use Rattle.pairs.proofs.FlatLists.{length-pairsOf}
 use Rattle.schedule.specs.Schedules.{minute, stretch}
-use Rattle.cycle.specs.Windows.{runOf, Holds, passes}
+use Rattle.cycle.specs.Windows.{runOf, Holds, passes, startsPass}
+use Rattle.cycle.proofs.Starts.{all-pass, one-fails}
+use Rattle.cycle.proofs.MovingWindow.{holds-none, holds-without, first-inside, first-there, passes-here, past-fits}
 use Rattle.cycle.proofs.starts_pass.Statement.{statement}
 use Rattle.cycle.proofs.starts_pass.Tie as tie
-use Rattle.cycle.proofs.starts_pass.Reads as reads
-use Rattle.cycle.proofs.starts_pass.Lts as lts
-use Rattle.cycle.proofs.Window.without.Reads as without-reads
-use Rattle.cycle.proofs.filled.Reads as filled-reads
-use Rattle.cycle.proofs.parts_of.Reads as parts-of-reads
-use Rattle.cycle.proofs.report_at.Reads as report-at-reads
-use Rattle.cycle.proofs.rule_passes.Reads as rule-passes-reads
 
 abbrev Inv-loop : tie.InvT-loop
 Inv-loop words rule minutes count parts w₀ w =
@@ -45,42 +40,66 @@ report-at-requires c κs = (omega arith, c .before .before .before .before .befo
 
 add-rule-passes : tie.Need-add-rule-passes Inv-loop μ-loop
 add-rule-passes c =
-    let p = past-fits (c .before .before .before .before .before .before .before .before .before .args .words .now) _ (omega arith) (c .before .before .before .before .before .before .before .parts-of .ensures .short) (c .before .before .before .filled .ensures .2) (c .before .before .before .before .before .before .before .before .before .pre .0 .few) in
+    let filled = c .before .before .before in
+    let parts = filled .before .before .before .before in
+    let start = parts .before .before in
+    let p = past-fits (start .args .words .now) _ (omega arith) (parts .parts-of .ensures .short) (filled .filled .ensures .2) (start .pre .0 .few) in
     record { fits = omega arith }
 
 rule-passes-requires : tie.Need-rule-passes-requires Inv-loop μ-loop
 rule-passes-requires c κs = search needs
 
+-- what a turn has found when the rule has judged
+module _ (c : tie.After-rule-passes Inv-loop μ-loop) where
+  abbrev filled : tie.After-filled Inv-loop μ-loop
+  filled = c .before .before .before .before
+
+  abbrev parts : tie.After-parts-of Inv-loop μ-loop
+  parts = filled .before .before .before .before
+
+  abbrev start : tie.Start Inv-loop μ-loop
+  start = parts .before .before
+
+  first-round : filled .filled .result .first < length (start .args .words .now) / 2
+  first-round = omega (arith, filled .filled .ensures .0, filled .before .if1 .taken)
+
+  judged : c .rule-passes .result ≡ passes (start .args .rule) (stretch (runOf (start .args .words .now)) (minute (runOf (start .args .words .now)) (filled .filled .result .first)) (start .args .minutes)) (runOf (start .args .words .now) .size (filled .filled .result .first))
+  judged =
+      c .rule-passes .ensures
+      ∙ passes-here (start .args .words .now) (start .pre .0) _ (parts .parts-of .ensures) (filled .filled .ensures .2) (filled .filled .ensures .1) (start .args .rule) (c .before .before .before .report-at .ensures)
+
+  there : filled .filled .result .first < filled .filled .result .past
+  there = first-there (start .args .words .now) (start .pre .0) _ (parts .parts-of .ensures) (filled .filled .ensures .2) (filled .filled .ensures .1)
+
 returns : tie.Need-returns Inv-loop μ-loop
 unfolding startsPass
 returns c =
-    let l = c .before .before .before .before .before .before .before .before .before .before .before .args .words .now in
-    let here = passes-here l (c .before .before .before .before .before .before .before .before .before .before .before .pre .0) _ (c .before .before .before .before .before .before .before .before .before .parts-of .ensures) (c .before .before .before .before .before .filled .ensures .2) (c .before .before .before .before .before .filled .ensures .1) (c .before .before .before .before .before .before .before .before .before .before .before .args .rule) (c .before .before .before .before .report-at .ensures) in
-    one-fails _ _ (c .before .before .before .before .before .filled .result .first) (omega (arith, length-pairsOf l)) (sym here ∙ sym (c .before .rule-passes .ensures) ∙ not-true _ (c .if2 .taken))
+    let at = c .before in
+    one-fails _ _ (filled at .filled .result .first) (omega (arith, first-round at, length-pairsOf (start at .args .words .now))) (sym (judged at) ∙ not-true _ (c .if2 .taken))
 
 without-requires : tie.Need-without-requires Inv-loop μ-loop
 without-requires c κs =
-    let there = first-there _ (c .before .before .before .before .before .before .before .before .before .before .before .pre .0) _ (c .before .before .before .before .before .before .before .before .before .parts-of .ensures) (c .before .before .before .before .before .filled .ensures .2) (c .before .before .before .before .before .filled .ensures .1) in
-    let k = first-inside _ _ (c .before .before .before .before .before .filled .ensures .2) (c .before .before .before .before .report-at .ensures) there in
-    (omega arith, k .0, k .1)
+    let at = c .before in
+    let k = first-inside _ _ (filled at .filled .ensures .2) (at .before .before .before .report-at .ensures) (there at) in
+    (omega (arith, first-round at, start at .pre .0 .few), k .0, k .1)
 
 loop-less : tie.Need-loop-less Inv-loop μ-loop
 loop-less c = rw (c .without .ensures) (omega arith)
 
 loop-again : tie.Need-loop-again Inv-loop μ-loop
 loop-again c =
-    let l = c .before .before .before .before .before .before .before .before .before .before .before .before .args .words .now in
-    let there = first-there _ (c .before .before .before .before .before .before .before .before .before .before .before .before .pre .0) _ (c .before .before .before .before .before .before .before .before .before .before .parts-of .ensures) (c .before .before .before .before .before .before .filled .ensures .2) (c .before .before .before .before .before .before .filled .ensures .1) in
-    let here = passes-here l (c .before .before .before .before .before .before .before .before .before .before .before .before .pre .0) _ (c .before .before .before .before .before .before .before .before .before .before .parts-of .ensures) (c .before .before .before .before .before .before .filled .ensures .2) (c .before .before .before .before .before .before .filled .ensures .1) (c .before .before .before .before .before .before .before .before .before .before .before .before .args .rule) (c .before .before .before .before .before .report-at .ensures) in
+    let at = c .before .before in
     rw (c .without .ensures) (
       omega arith,
-      holds-without _ _ (c .before .before .before .before .before .before .filled .ensures .2) (c .before .before .before .before .before .report-at .ensures) there,
-      below-more _ _ (rw (c .before .before .before .before .before .before .filled .ensures .0) (c .before .before .before .before .before .before .before .before .before .loop .inv .2)) (sym here ∙ sym (c .before .before .rule-passes .ensures) ∙ not-false _ (c .before .if2 .left)),
+      holds-without _ _ (filled at .filled .ensures .2) (at .before .before .before .report-at .ensures) (there at),
+      below-more _ _ (rw (filled at .filled .ensures .0) (filled at .before .before .before .loop .inv .2)) (sym (judged at) ∙ not-false _ (c .before .if2 .left)),
     )
 
 returns-2 : tie.Need-returns-2 Inv-loop μ-loop
 unfolding startsPass
-returns-2 c = all-pass _ _ (c .before .before .loop .w .first) (omega (arith, length-pairsOf (c .before .before .before .before .before .args .words .now))) (c .before .before .loop .inv .2)
+returns-2 c =
+    let loop = c .before .before in
+    all-pass _ _ (loop .loop .w .first) (omega (arith, length-pairsOf (loop .before .before .before .args .words .now))) (loop .loop .inv .2)
 
 pub starts-pass-spec : {M : Type 1} → statement M
 starts-pass-spec =

@@ -1,16 +1,13 @@
-use Rattle.pairs.specs.Pairs.{pairsOf}
-use mathlib.Core.Path.{sym, _∙_}
+-- `supply_kept` meets its contract: the fullest stretches start at the reports of one round (`supply-starts`).
 use native.Mathlib.Omega.{arith}
+use mathlib.Core.Path.{_∙_}
+use borrow.Author.Needs.{needs}
+use Rattle.pairs.specs.Pairs.{pairsOf}
 use Rattle.pairs.proofs.FlatLists.{length-pairsOf}
 use Rattle.cycle.specs.Check.{supplyKept}
 use Rattle.cycle.proofs.Starts.{minutes-some, supply-starts}
-use borrow.Author.Needs.{needs}
 use Rattle.cycle.proofs.supply_kept.Statement.{statement}
 use Rattle.cycle.proofs.supply_kept.Tie as tie
-use Rattle.cycle.proofs.supply_kept.Reads as reads
-use Rattle.cycle.proofs.supply_kept.Lts as lts
-use Rattle.cycle.proofs.starts_pass.Reads as starts-pass-reads
-use Rattle.cycle.proofs.wide.Reads as wide-reads
 
 enum-told : tie.Need-enum-told
 enum-told c = search needs
