@@ -13,10 +13,10 @@ use Rattle.schedule.specs.Schedules.{Schedule, sum, minute, stretch}
 use Rattle.schedule.proofs.Sums.{lt-cases, sum-more, sum-add, sum-again, block}
 use Rattle.schedule.proofs.Stretches.{stretch-block}
 use Rattle.schedule.proofs.Before.{minute-more, minute-mono, minute-least, minute-rise}
-use Rattle.cycle.specs.declared.Parts.{Parts}
-use Rattle.cycle.specs.declared.Rule.{Rule}
-use Rattle.cycle.specs.declared.Report.{Report}
-use Rattle.cycle.specs.declared.Window.{Window}
+use Rattle.cycle.specs.declared.stretches.Parts.{Parts}
+use Rattle.cycle.specs.declared.stretches.Rule.{Rule}
+use Rattle.cycle.specs.declared.stretches.Report.{Report}
+use Rattle.cycle.specs.declared.stretches.Window.{Window}
 use Rattle.cycle.specs.Cycles.{round}
 use Rattle.cycle.specs.Windows.{runOf, Walkable, IsReport, IsParts, Holds, withReport, withoutReport, passes}
 use Rattle.cycle.proofs.Runs.{gap-again}

@@ -19,7 +19,7 @@ use Rattle.schedule.specs.Schedules.{Schedule, sum, minute, stretch}
 use Rattle.schedule.proofs.Sums.{block-one}
 use Rattle.schedule.proofs.Before.{stretch-before, before-minute, before-next, stretch-add}
 use Rattle.schedule.proofs.Repeats.{stretch-rounds, stretch-whole, full-at-report, thin-after-report}
-use Rattle.cycle.specs.declared.Rule.the-variants.{AtMost, AtLeast}
+use Rattle.cycle.specs.declared.stretches.Rule.the-variants.{AtMost, AtLeast}
 use Rattle.cycle.specs.Cycles.{cycleRun, round, roundRecords}
 use Rattle.cycle.specs.Check.{all, supplyKept, demandMet}
 use Rattle.cycle.specs.Windows.{startsPass}

@@ -9,12 +9,12 @@ use lib.ListN.{length}
 use Rattle.pairs.specs.declared.Pair.{Pair}
 use Rattle.pairs.specs.Pairs.{pairsOf}
 use Rattle.schedule.specs.Schedules.{Schedule, sum, minute, stretch}
-use Rattle.cycle.specs.declared.Parts.{Parts}
-use Rattle.cycle.specs.declared.Report.{Report}
-use Rattle.cycle.specs.declared.Round.{Round}
-use Rattle.cycle.specs.declared.Rule.{Rule}
-use Rattle.cycle.specs.declared.Rule.the-variants.{AtMost, AtLeast}
-use Rattle.cycle.specs.declared.Window.{Window}
+use Rattle.cycle.specs.declared.stretches.Parts.{Parts}
+use Rattle.cycle.specs.declared.stretches.Report.{Report}
+use Rattle.cycle.specs.declared.stretches.Round.{Round}
+use Rattle.cycle.specs.declared.stretches.Rule.{Rule}
+use Rattle.cycle.specs.declared.stretches.Rule.the-variants.{AtMost, AtLeast}
+use Rattle.cycle.specs.declared.stretches.Window.{Window}
 use Rattle.cycle.specs.Cycles.{cycleRun, round, roundRecords}
 use Rattle.cycle.specs.Check.{all}
 

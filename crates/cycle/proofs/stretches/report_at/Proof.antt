@@ -2,8 +2,8 @@
 use mathlib.Core.Path.{sym, _∙_}
 use borrow.Author.Needs.{needs}
 use Rattle.cycle.proofs.Runs.{flat-gap, flat-size}
-use Rattle.cycle.proofs.report_at.Statement.{statement}
-use Rattle.cycle.proofs.report_at.Tie as tie
+use Rattle.cycle.proofs.stretches.report_at.Statement.{statement}
+use Rattle.cycle.proofs.stretches.report_at.Tie as tie
 
 place-requires : tie.Need-place-requires
 place-requires c κs = search needs

@@ -11,8 +11,8 @@ use Rattle.schedule.proofs.Sums.{sum-none, sum-more}
 use Rattle.schedule.proofs.Before.{minute-none, minute-more}
 use Rattle.cycle.specs.Cycles.{round, roundRecords}
 use Rattle.cycle.specs.Windows.{runOf}
-use Rattle.cycle.proofs.round_of.Statement.{statement}
-use Rattle.cycle.proofs.round_of.Tie as tie
+use Rattle.cycle.proofs.stretches.round_of.Statement.{statement}
+use Rattle.cycle.proofs.stretches.round_of.Tie as tie
 
 abbrev Inv-loop : tie.InvT-loop
 Inv-loop words count minutes₀ records₀ i₀ minutes records i = (i ≤ count) × (minutes ≡ minute (runOf words) i) × (records ≡ sum (runOf words .size) i) × (minutes ≤ 65535 * i) × (records ≤ 65535 * i)

@@ -3,8 +3,8 @@ use native.Mathlib.Omega.{arith}
 use mathlib.Core.Path.{sym}
 use borrow.Author.Needs.{needs}
 use Rattle.cycle.proofs.Runs.{first-turn, second-turn}
-use Rattle.cycle.proofs.place.Statement.{statement}
-use Rattle.cycle.proofs.place.Tie as tie
+use Rattle.cycle.proofs.stretches.place.Statement.{statement}
+use Rattle.cycle.proofs.stretches.place.Tie as tie
 
 returns : tie.Need-returns
 returns c = (sym (first-turn _ _ (c .if1 .taken)), search needs)

@@ -7,8 +7,8 @@ use mathlib.Core.Path.{_≡_, refl}
 use borrow.Author.Needs.{needs}
 use Rattle.cycle.specs.Windows.{runOf, Holds}
 use Rattle.cycle.proofs.MovingWindow.{holds-with, next-place}
-use Rattle.cycle.proofs.filled.Statement.{statement}
-use Rattle.cycle.proofs.filled.Tie as tie
+use Rattle.cycle.proofs.stretches.filled.Statement.{statement}
+use Rattle.cycle.proofs.stretches.filled.Tie as tie
 
 abbrev Inv-loop : tie.InvT-loop
 Inv-loop words v w₀ w = (w .first ≡ w₀ .first) × Holds (runOf words) v w

@@ -1,7 +1,7 @@
 -- `rule_passes` meets its contract, case by case.
 use borrow.Author.Needs.{needs}
-use Rattle.cycle.proofs.rule_passes.Statement.{statement}
-use Rattle.cycle.proofs.rule_passes.Tie as tie
+use Rattle.cycle.proofs.stretches.rule_passes.Statement.{statement}
+use Rattle.cycle.proofs.stretches.rule_passes.Tie as tie
 
 enum-known-rule : tie.Need-enum-known-rule
 enum-known-rule c = search needs

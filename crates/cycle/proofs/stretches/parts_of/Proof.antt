@@ -11,8 +11,8 @@ use Rattle.cycle.specs.Cycles.{round}
 use Rattle.cycle.specs.Windows.{Walkable}
 use Rattle.cycle.proofs.Runs.{round-some}
 use Rattle.cycle.proofs.Starts.{rounds-most, rounds-fit, stretch-parts}
-use Rattle.cycle.proofs.parts_of.Statement.{statement}
-use Rattle.cycle.proofs.parts_of.Tie as tie
+use Rattle.cycle.proofs.stretches.parts_of.Statement.{statement}
+use Rattle.cycle.proofs.stretches.parts_of.Tie as tie
 
 some-minutes : (l : List ℕ) → Walkable l → 1 ≤ round (pairsOf l)
 some-minutes l ok = round-some (pairsOf l) (omega (arith, length-pairsOf l, ok .some)) (ok .later)

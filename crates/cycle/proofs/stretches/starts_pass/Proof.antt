@@ -15,8 +15,8 @@ use Rattle.schedule.specs.Schedules.{minute, stretch}
 use Rattle.cycle.specs.Windows.{runOf, Holds, passes, startsPass}
 use Rattle.cycle.proofs.Starts.{all-pass, one-fails}
 use Rattle.cycle.proofs.MovingWindow.{holds-none, holds-without, first-inside, first-there, passes-here, past-fits}
-use Rattle.cycle.proofs.starts_pass.Statement.{statement}
-use Rattle.cycle.proofs.starts_pass.Tie as tie
+use Rattle.cycle.proofs.stretches.starts_pass.Statement.{statement}
+use Rattle.cycle.proofs.stretches.starts_pass.Tie as tie
 
 abbrev Inv-loop : tie.InvT-loop
 Inv-loop words rule minutes count parts w₀ w =
