@@ -19,7 +19,9 @@ wide-requires : tie.Need-wide-requires
 wide-requires c κs = search needs
 
 starts-pass-requires : tie.Need-starts-pass-requires
-starts-pass-requires c κs = (c .before .before .before .before .before .pre .0, omega (arith, minutes-some _ (c .before .before .rate .given .1) (c .before .before .before .before .before .pre .1)), search needs)
+starts-pass-requires c κs =
+    let start = c .before .before .before .before .before in
+    (start .pre .0, omega (arith, minutes-some _ (c .before .before .rate .given .1) (start .pre .1)), search needs)
 
 returns : tie.Need-returns
 unfolding supplyKept

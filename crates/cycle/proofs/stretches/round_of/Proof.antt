@@ -15,7 +15,9 @@ use Rattle.cycle.proofs.stretches.round_of.Statement.{statement}
 use Rattle.cycle.proofs.stretches.round_of.Tie as tie
 
 abbrev Inv-loop : tie.InvT-loop
-Inv-loop words count minutes₀ records₀ i₀ minutes records i = (i ≤ count) × (minutes ≡ minute (runOf words) i) × (records ≡ sum (runOf words .size) i) × (minutes ≤ 65535 * i) × (records ≤ 65535 * i)
+Inv-loop words count minutes₀ records₀ i₀ minutes records i =
+    (i ≤ count) × (minutes ≡ minute (runOf words) i) × (records ≡ sum (runOf words .size) i)
+    × (minutes ≤ 65535 * i) × (records ≤ 65535 * i)
 
 abbrev μ-loop : tie.MeasureT-loop
 μ-loop words count minutes₀ records₀ i₀ minutes records i = count - i

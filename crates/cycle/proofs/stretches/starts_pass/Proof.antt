@@ -6,6 +6,7 @@ use Prim.Native.Nat.{ℕ, _-_, _/_, _≤_, _<_}
 use native.Mathlib.Omega.{arith}
 use mathlib.Core.Path.{_≡_, sym, _∙_}
 use mathlib.Core.Bool.{true}
+use mathlib.Core.List.{List}
 use lib.ListN.{length}
 use borrow.Author.Count.{below-more}
 use borrow.Author.Needs.{needs}
@@ -60,22 +61,28 @@ module _ (c : tie.After-rule-passes Inv-loop μ-loop) where
   abbrev start : tie.Start Inv-loop μ-loop
   start = parts .before .before
 
-  first-round : filled .filled .result .first < length (start .args .words .now) / 2
+  abbrev l : List ℕ
+  l = start .args .words .now
+
+  abbrev first : ℕ
+  first = filled .filled .result .first
+
+  first-round : first < length l / 2
   first-round = omega (arith, filled .filled .ensures .0, filled .before .if1 .taken)
 
-  judged : c .rule-passes .result ≡ passes (start .args .rule) (stretch (runOf (start .args .words .now)) (minute (runOf (start .args .words .now)) (filled .filled .result .first)) (start .args .minutes)) (runOf (start .args .words .now) .size (filled .filled .result .first))
+  judged : c .rule-passes .result ≡ passes (start .args .rule) (stretch (runOf l) (minute (runOf l) first) (start .args .minutes)) (runOf l .size first)
   judged =
       c .rule-passes .ensures
-      ∙ passes-here (start .args .words .now) (start .pre .0) _ (parts .parts-of .ensures) (filled .filled .ensures .2) (filled .filled .ensures .1) (start .args .rule) (c .before .before .before .report-at .ensures)
+      ∙ passes-here l (start .pre .0) _ (parts .parts-of .ensures) (filled .filled .ensures .2) (filled .filled .ensures .1) (start .args .rule) (c .before .before .before .report-at .ensures)
 
-  there : filled .filled .result .first < filled .filled .result .past
-  there = first-there (start .args .words .now) (start .pre .0) _ (parts .parts-of .ensures) (filled .filled .ensures .2) (filled .filled .ensures .1)
+  there : first < filled .filled .result .past
+  there = first-there l (start .pre .0) _ (parts .parts-of .ensures) (filled .filled .ensures .2) (filled .filled .ensures .1)
 
 returns : tie.Need-returns Inv-loop μ-loop
 unfolding startsPass
 returns c =
     let at = c .before in
-    one-fails _ _ (filled at .filled .result .first) (omega (arith, first-round at, length-pairsOf (start at .args .words .now))) (sym (judged at) ∙ not-true _ (c .if2 .taken))
+    one-fails _ _ (first at) (omega (arith, first-round at, length-pairsOf (l at))) (sym (judged at) ∙ not-true _ (c .if2 .taken))
 
 without-requires : tie.Need-without-requires Inv-loop μ-loop
 without-requires c κs =
