@@ -142,6 +142,13 @@ pub fn check_unpacked_file(spec_bytes: &[u8], flat: Flat) -> u32
     check_unpacked(accepted, flat)
 }
 
+// The number of a lent list of pairs.
+pub fn check_pairs(spec: Spec, pairs: &[Pair]) -> u32
+    ensures { λ r. ⌜ r ≡ checkNumber spec (now (pairs .entry)) ⌝ }
+{
+    check_unpacked(spec, pairs::unpack(pairs))
+}
+
 // The number of a lent list of pairs against a specification's file, for C.
 #[no_mangle]
 pub extern "C" fn maxeltu_check_cycle(spec_bytes: &[u8], pairs: &[Pair]) -> u32
