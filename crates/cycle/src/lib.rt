@@ -131,7 +131,7 @@ pub fn check_unpacked(spec: Spec, flat: Flat) -> u32
     check_words(spec, &words, count)
 }
 
-// The same, given a specification's file: only an accepted specification goes on.
+// The same, given a specification's file, for callers outside Rattle: only an accepted specification goes on.
 pub fn check_unpacked_file(spec_bytes: &[u8], flat: Flat) -> u32
     ensures { λ r. ⌜ r ≡ checkFileNumber (readSpec (now («spec_bytes» .entry))) (flatPairs flat) ⌝ }
 {
@@ -147,12 +147,4 @@ pub fn check_pairs(spec: Spec, pairs: &[Pair]) -> u32
     ensures { λ r. ⌜ r ≡ checkNumber spec (now (pairs .entry)) ⌝ }
 {
     check_unpacked(spec, pairs::unpack(pairs))
-}
-
-// The number of a lent list of pairs against a specification's file, for C.
-#[no_mangle]
-pub extern "C" fn maxeltu_check_cycle(spec_bytes: &[u8], pairs: &[Pair]) -> u32
-    ensures { λ r. ⌜ r ≡ checkFileNumber (readSpec (now («spec_bytes» .entry))) (now (pairs .entry)) ⌝ }
-{
-    check_unpacked_file(spec_bytes, pairs::unpack(pairs))
 }
