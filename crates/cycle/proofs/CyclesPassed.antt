@@ -17,7 +17,7 @@ use Rattle.pairs.specs.declared.Pair.{Pair}
 use Rattle.schedule.specs.Schedules.{stretch}
 use Rattle.cycle.specs.Cycles.{pairGap, pairSize, cycleRun, round}
 use Rattle.cycle.specs.Check.{all, countAllowed, gapsAllowed, sizesAllowed, supplyKept, demandMet, cycleNumber, checkNumber}
-use Rattle.cycle.specs.Statements.{PassedObeys, TooFull, TooThin, Witness13, Witness14, Witness15, Witness16}
+use Rattle.cycle.specs.Statements.{PassedObeys, TooFull, TooThin, GapRefused, SizeRefused, SupplyRefused, DemandRefused}
 use Rattle.cycle.proofs.Runs.{all-right, gap-at, size-at, all-gaps, all-sizes, supply-right, demand-right}
 use Rattle.cycle.proofs.Steps.{gets-cycle, gets-0}
 
@@ -73,13 +73,13 @@ cycle-own spec ps n h e = pick (eqb (specNumber spec) 0) e
     pick true e = e
     pick false e = absurd (omega (arith, spec-few spec))
 
-pub witness-13 : Witness13
+pub gap-refused : GapRefused
 unfolding gapsAllowed
-witness-13 spec ps e = witness _ (length ps) (cycle-said spec ps .is-13 (cycle-own spec ps 13 (omega arith) e))
+gap-refused spec ps e = witness _ (length ps) (cycle-said spec ps .is-13 (cycle-own spec ps 13 (omega arith) e))
 
-pub witness-14 : Witness14
+pub size-refused : SizeRefused
 unfolding sizesAllowed
-witness-14 spec ps e = witness _ (length ps) (cycle-said spec ps .is-14 (cycle-own spec ps 14 (omega arith) e))
+size-refused spec ps e = witness _ (length ps) (cycle-said spec ps .is-14 (cycle-own spec ps 14 (omega arith) e))
 
 too-full : (rate : Rate) (ps : List Pair) → supplyKept rate ps ≡ false → TooFull rate (cycleRun ps)
 unfolding supplyKept
@@ -95,11 +95,11 @@ too-thin (Present l p) ps e =
     let k = witness (λ a. leb l (stretch (cycleRun ps) a p)) (round ps) e in
     (k .0, leb-false _ _ (k .1 .1))
 
-pub witness-15 : Witness15
-witness-15 spec ps e = too-full (spec .supply) ps (cycle-said spec ps .is-15 (cycle-own spec ps 15 (omega arith) e))
+pub supply-refused : SupplyRefused
+supply-refused spec ps e = too-full (spec .supply) ps (cycle-said spec ps .is-15 (cycle-own spec ps 15 (omega arith) e))
 
-pub witness-16 : Witness16
-witness-16 spec ps e = too-thin (spec .demand) ps (cycle-said spec ps .is-16 (cycle-own spec ps 16 (omega arith) e))
+pub demand-refused : DemandRefused
+demand-refused spec ps e = too-thin (spec .demand) ps (cycle-said spec ps .is-16 (cycle-own spec ps 16 (omega arith) e))
 
 module _ (spec : Spec) (ps : List Pair) (some : 1 ≤ length ps) where
   gaps-right : (gapsAllowed spec ps ≡ true) ↔ ((i : ℕ) → gapAllowed spec (cycleRun ps .gap i) ≡ true)

@@ -32,18 +32,18 @@ abbrev pub TooThin : Rate → Schedule → Type 0
 TooThin Absent s = ⊥
 TooThin (Present l p) s = (a : ℕ) × (stretch s a p < l)
 
--- Each number that a check gives after 12 has its witness: a pair whose gap, whose size is not allowed, or a stretch.
-abbrev pub Witness13 : Type 0
-Witness13 = (spec : Spec) (ps : List Pair) → checkNumber spec ps ≡ 13 → (j : ℕ) × ((j < length ps) × (gapAllowed spec (pairGap ps j) ≡ false))
+-- Each number from 13 on has its witness: a pair whose gap or whose size is not allowed, a stretch that is too full or too thin.
+abbrev pub GapRefused : Type 0
+GapRefused = (spec : Spec) (ps : List Pair) → checkNumber spec ps ≡ 13 → (j : ℕ) × ((j < length ps) × (gapAllowed spec (pairGap ps j) ≡ false))
 
-abbrev pub Witness14 : Type 0
-Witness14 = (spec : Spec) (ps : List Pair) → checkNumber spec ps ≡ 14 → (j : ℕ) × ((j < length ps) × (sizeAllowed spec (pairSize ps j) ≡ false))
+abbrev pub SizeRefused : Type 0
+SizeRefused = (spec : Spec) (ps : List Pair) → checkNumber spec ps ≡ 14 → (j : ℕ) × ((j < length ps) × (sizeAllowed spec (pairSize ps j) ≡ false))
 
-abbrev pub Witness15 : Type 0
-Witness15 = (spec : Spec) (ps : List Pair) → checkNumber spec ps ≡ 15 → TooFull (spec .supply) (cycleRun ps)
+abbrev pub SupplyRefused : Type 0
+SupplyRefused = (spec : Spec) (ps : List Pair) → checkNumber spec ps ≡ 15 → TooFull (spec .supply) (cycleRun ps)
 
-abbrev pub Witness16 : Type 0
-Witness16 = (spec : Spec) (ps : List Pair) → checkNumber spec ps ≡ 16 → TooThin (spec .demand) (cycleRun ps)
+abbrev pub DemandRefused : Type 0
+DemandRefused = (spec : Spec) (ps : List Pair) → checkNumber spec ps ≡ 16 → TooThin (spec .demand) (cycleRun ps)
 
 -- For every cycle with no gap 0, a stretch holds its whole rounds times the records of a round, and what the minutes left over,
 -- fewer than a round's, hold.
