@@ -2,7 +2,7 @@
 -- of one period hold: required supply is found at its front, and available supply, the least over all starts, at its back.
 use Prim.Native.Nat.{ℕ, zero, suc, _+_, _-_, _*_, _/_, _%_, _≤_, _<_, min}
 use native.Mathlib.Omega.{arith}
-use native.Mathlib.Nat.{mod-lt, add-mul, one-mul, div-add-mod', zero-add, le-trans, mul-comm, mul-le-mul-right}
+use native.Mathlib.Nat.{mod-lt, add-mul, one-mul, div-add-mod', zero-add, le-trans, mul-comm, mul-le-mul-right, le-div-iff-mul-le, div-le-self}
 use mathlib.Core.Path.{_≡_, refl, sym, _∙_, ap}
 use mathlib.Core.Logic.{⊎-elim}
 use mathlib.Core.Bool.{true, and-eq-true-iff}
@@ -140,3 +140,31 @@ module _ (p : Plan) (ok : proper p ≡ true) (well : p .kind ≡ WellFormed) whe
     pub available-held : stretch (run p) (π - m % π) m ≡ available p m
     unfolding back
     available-held = rw (available-back, run-well)
+
+    pub available-most : available p m ≤ m * 1000
+    available-most = le-trans (available-least 0) (held-most m)
+
+  pub required-most : (r : ℕ) → required p r ≤ r * 1000
+  unfolding required
+  required-most r = held-most r
+
+-- bounds within which all sums and products of the figures fit
+pub record Numbers (p : Plan) : Type 0 where
+  pub count : (1 ≤ p .count) × (p .count ≤ 20160)
+  pub period : (1 ≤ p .period) × (p .period ≤ 406425600)
+  pub total : p .total ≤ 20160000
+  pub gap : (1 ≤ p .period / p .count) × (p .period / p .count ≤ 406425600)
+  pub longer : p .period % p .count < p .count
+  pub size : p .total / p .count ≤ 20160000
+
+pub numbers : (p : Plan) → proper p ≡ true → Numbers p
+numbers p e =
+    let b = bounds p e in
+    record {
+      count = (b .one, b .most);
+      period = (omega arith, omega arith);
+      total = omega arith;
+      gap = (le-div-iff-mul-le {k = p .count} {x = 1} {y = p .period} (b .one) .1 (omega (arith, one-mul (p .count))), omega (arith, div-le-self (p .period) (p .count)));
+      longer = mod-lt (p .period) (b .one);
+      size = omega (arith, div-le-self (p .total) (p .count));
+    }

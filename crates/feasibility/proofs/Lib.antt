@@ -1,3 +1,5 @@
+pub mod Negated
+pub mod Products
 pub mod Ceilings
 pub mod Fronts
 pub mod Figures

@@ -5,7 +5,7 @@ use native.Mathlib.Omega.{arith}
 use native.Mathlib.Nat.{le-trans, le-max-left, max-le, min-le-left, le-min, mul-le-mul-left, mul-le-mul-right, mul-comm, le-mul-of-pos-right, zero-mul}
 use mathlib.Core.Path.{_≡_, refl, sym, ap}
 use mathlib.Core.Logic.{⊎-elim}
-use mathlib.Core.Bool.{true, and-eq-true-iff}
+use mathlib.Core.Bool.{true, false, and-eq-true-iff}
 use Rattle.spec.specs.declared.Rate.{Rate}
 use Rattle.spec.specs.declared.Rate.the-variants.{Absent, Present}
 use Rattle.spec.specs.declared.Spec.{Spec}
@@ -21,7 +21,18 @@ use Rattle.feasibility.specs.declared.Family.the-variants.{MinimumDemand
 use Rattle.feasibility.specs.declared.Rates.{Rates}
 use Rattle.feasibility.specs.declared.BothRates.{BothRates}
 use Rattle.feasibility.specs.declared.BothRates.the-variants.{Both, Missing}
-use Rattle.feasibility.specs.Families.{ratesFrom, bothRates, exists, periodFor, totalFor, planFor}
+use Rattle.feasibility.specs.declared.Scheduled.the-variants.{Found, Refused}
+use Rattle.feasibility.specs.Families.{ratesFrom, bothRates, exists, periodFor, totalFor, planFor, supplyFigure, scheduled}
+
+-- what is scheduled, by whether it exists
+module _ (f : Family) (s : Spec) (q : Rates) (k : ℕ) where
+  pub scheduled-none : exists f s q k ≡ false → scheduled f s q k ≡ Refused 6
+  unfolding scheduled
+  scheduled-none e = rw (scheduled, e)
+
+  pub scheduled-some : exists f s q k ≡ true → scheduled f s q k ≡ Found (planFor f s q k) (supplyFigure f q (planFor f s q k))
+  unfolding scheduled
+  scheduled-some e = rw (scheduled, e)
 
 -- the rates of an accepted specification, and their limits
 pub record Known (s : Spec) (q : Rates) : Type 0 where

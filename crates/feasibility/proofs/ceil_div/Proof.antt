@@ -1,0 +1,23 @@
+use mathlib.Core.Path.{_≡_, refl, sym, _∙_}
+use Rattle.feasibility.specs.Consistency.{ceil}
+use borrow.Author.Needs.{needs}
+use Rattle.feasibility.proofs.ceil_div.Statement.{statement}
+use Rattle.feasibility.proofs.ceil_div.Tie as tie
+use Rattle.feasibility.proofs.ceil_div.Reads as reads
+use Rattle.feasibility.proofs.ceil_div.Lts as lts
+
+sub-result : tie.Need-sub-result
+sub-result c = search needs
+
+add-result : tie.Need-add-result
+add-result c = search needs
+
+div-result : tie.Need-div-result
+div-result c = search needs
+
+returns : tie.Need-returns
+unfolding ceil
+returns c = refl
+
+pub ceil-div-spec : {M : Type 1} → statement M
+ceil-div-spec = tie.close (tie.spec sub-result add-result div-result returns)

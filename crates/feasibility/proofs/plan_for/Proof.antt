@@ -1,0 +1,32 @@
+use Rattle.feasibility.proofs.Plans.{known, plan-proper, plan-well, scheduled-none, scheduled-some}
+use native.Mathlib.Omega.{arith}
+use Rattle.feasibility.specs.Families.{planFor}
+use Rattle.feasibility.proofs.Figures.{numbers}
+use borrow.Author.Needs.{needs}
+use Rattle.feasibility.proofs.plan_for.Statement.{statement}
+use Rattle.feasibility.proofs.plan_for.Tie as tie
+use Rattle.feasibility.proofs.plan_for.Reads as reads
+use Rattle.feasibility.proofs.plan_for.Lts as lts
+use Rattle.feasibility.proofs.period_for.Reads as period-for-reads
+use Rattle.feasibility.proofs.total_for.Reads as total-for-reads
+
+period-for-requires : tie.Need-period-for-requires
+period-for-requires c κs = search needs
+
+cast-t7 : tie.Need-cast-t7
+unfolding planFor
+cast-t7 c = let n = numbers _ (plan-proper _ _ (known _ _ (c .before .pre .0) (c .before .pre .1)) _ _ (c .before .pre .2)) in record { fits = omega arith }
+
+total-for-requires : tie.Need-total-for-requires
+total-for-requires c κs = search needs
+
+cast-t9 : tie.Need-cast-t9
+unfolding planFor
+cast-t9 c = let n = numbers _ (plan-proper _ _ (known _ _ (c .before .before .pre .0) (c .before .before .pre .1)) _ _ (c .before .before .pre .2)) in record { fits = omega arith }
+
+returns : tie.Need-returns
+unfolding planFor
+returns c = rw (c .total-for .ensures, c .before .period-for .ensures)
+
+pub plan-for-spec : {M : Type 1} → statement M
+plan-for-spec = tie.close (tie.spec period-for-requires cast-t7 total-for-requires cast-t9 returns)

@@ -1,0 +1,53 @@
+use native.Mathlib.Omega.{arith}
+use Rattle.feasibility.proofs.Products.{fits-mul}
+use mathlib.Core.Path.{_≡_, refl, sym, _∙_}
+use Prim.Native.Nat.{_/_, _%_, _≤_}
+use native.Mathlib.Nat.{div-le-self, mod-lt, le-of-lt, mul-le-mul}
+use Rattle.feasibility.proofs.Figures.{numbers, front-part, required-closed, required-most}
+use borrow.Author.Needs.{needs}
+use Rattle.feasibility.proofs.required_supply.Statement.{statement}
+use Rattle.feasibility.proofs.required_supply.Tie as tie
+use Rattle.feasibility.proofs.required_supply.Reads as reads
+use Rattle.feasibility.proofs.required_supply.Lts as lts
+use Rattle.feasibility.proofs.front_held.Reads as front-held-reads
+
+cast-period : tie.Need-cast-period
+cast-period c = search needs
+
+cast-total : tie.Need-cast-total
+cast-total c = search needs
+
+div-result : tie.Need-div-result
+div-result c = let n = numbers _ (c .before .before .pre .0) in omega arith
+
+mul-result : tie.Need-mul-result
+mul-result c = let n = numbers _ (c .before .before .pre .0) in record { fits = fits-mul 64 65535 20160000 tt (omega (arith, div-le-self (c .before .before .args .r) (c .before .before .args .plan .period))) (n .total) }
+
+rem-front-held : tie.Need-rem-front-held
+rem-front-held c = let n = numbers _ (c .before .before .pre .0) in omega arith
+
+front-held-requires : tie.Need-front-held-requires
+front-held-requires c κs = let n = numbers _ (c .before .before .pre .0) in (c .before .before .pre .0, c .before .before .pre .1, le-of-lt (mod-lt (c .before .before .args .r) (n .period .0)))
+
+add-result : tie.Need-add-result
+add-result c = let v = required-most _ (c .before .before .before .pre .0) (c .before .before .before .pre .1) (c .before .before .before .args .r) in let e = required-closed _ (c .before .before .before .pre .0) (c .before .before .before .pre .1) (c .before .before .before .args .r) in record { fits = omega arith }
+
+cast-result : tie.Need-cast-result
+cast-result c = let v = required-most _ (c .before .before .before .pre .0) (c .before .before .before .pre .1) (c .before .before .before .args .r) in let e = required-closed _ (c .before .before .before .pre .0) (c .before .before .before .pre .1) (c .before .before .before .args .r) in record { fits = omega arith }
+
+returns : tie.Need-returns
+returns c = rw (c .front-held .ensures) (sym (required-closed _ (c .before .before .before .pre .0) (c .before .before .before .pre .1) _))
+
+pub required-supply-spec : {M : Type 1} → statement M
+required-supply-spec =
+    tie.close
+    (tie.spec
+    cast-period
+    cast-total
+    div-result
+    mul-result
+    rem-front-held
+    front-held-requires
+    add-result
+    cast-result
+    returns)

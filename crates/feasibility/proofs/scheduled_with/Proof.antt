@@ -1,0 +1,31 @@
+use Rattle.feasibility.proofs.Plans.{known, plan-proper, plan-well, scheduled-none, scheduled-some}
+use mathlib.Core.Path.{_≡_, refl, sym, _∙_}
+use Rattle.feasibility.proofs.Negated.{held, failed}
+use borrow.Author.Needs.{needs}
+use Rattle.feasibility.proofs.scheduled_with.Statement.{statement}
+use Rattle.feasibility.proofs.scheduled_with.Tie as tie
+use Rattle.feasibility.proofs.scheduled_with.Reads as reads
+use Rattle.feasibility.proofs.scheduled_with.Lts as lts
+use Rattle.feasibility.proofs.plan_for.Reads as plan-for-reads
+use Rattle.feasibility.proofs.schedule_exists.Reads as schedule-exists-reads
+use Rattle.feasibility.proofs.supply_figure.Reads as supply-figure-reads
+
+schedule-exists-requires : tie.Need-schedule-exists-requires
+schedule-exists-requires c κs = search needs
+
+returns : tie.Need-returns
+returns c = sym (scheduled-none _ _ _ _ (failed (c .before .schedule-exists .ensures) (c .if1 .taken)))
+
+plan-for-requires : tie.Need-plan-for-requires
+plan-for-requires c κs = (c .before .before .pre .0, c .before .before .pre .1, held (c .before .schedule-exists .ensures) (c .if1 .left))
+
+supply-figure-requires : tie.Need-supply-figure-requires
+supply-figure-requires c κs = let n = known _ _ (c .before .before .before .pre .0) (c .before .before .before .pre .1) in let e = held (c .before .before .schedule-exists .ensures) (c .before .if1 .left) in rw (c .plan-for .ensures) (plan-proper _ _ n _ _ e, plan-well _ _ n _ _ e)
+
+returns-2 : tie.Need-returns-2
+returns-2 c = rw (c .supply-figure .ensures, c .before .plan-for .ensures) (sym (scheduled-some _ _ _ _ (held (c .before .before .before .schedule-exists .ensures) (c .before .before .if1 .left))))
+
+pub scheduled-with-spec : {M : Type 1} → statement M
+scheduled-with-spec =
+    tie.close
+    (tie.spec schedule-exists-requires returns plan-for-requires supply-figure-requires returns-2)
