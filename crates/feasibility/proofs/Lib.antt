@@ -4,3 +4,4 @@ pub mod Ceilings
 pub mod Fronts
 pub mod Figures
 pub mod Plans
+pub mod Taking

@@ -8,7 +8,8 @@ use spec::Rate;
 use spec::Spec;
 ghost use mathlib.Core.Path.{_≡_};
 ghost use mathlib.Core.Bool.{true};
-ghost use Prim.Native.Nat.{_+_, _*_, _≤_, _<_, min, max};
+ghost use mathlib.Core.Logic.{_↔_};
+ghost use Prim.Native.Nat.{ℕ, _+_, _*_, _≤_, _<_, min, max};
 ghost use Rattle.spec.specs.Limits.{IsAccepted};
 ghost use Rattle.schedule.specs.Schedules.{stretch};
 ghost use Rattle.plan.specs.declared.Kind.the-variants.{WellFormed};
@@ -425,4 +426,119 @@ pub fn max_supply(spec: Spec, k: u32) -> Scheduled
     ensures { λ r. ⌜ r ≡ maximumSupplyFor spec k ⌝ }
 {
     schedule_for(Family::MaximumSupply, spec, k)
+}
+
+// The family of which the test takes a schedule: minimum demand where R ≥ P.
+fn family_of(q: Rates) -> Family
+    ensures { λ r. ⌜ r ≡ familyOf q ⌝ }
+{
+    if q.p <= q.r {
+        Family::MinimumDemand
+    } else {
+        Family::MaximumSupply
+    }
+}
+
+// Whether the figure v is better than w.
+fn is_better(f: Family, v: u32, w: u32) -> bool
+    ensures { λ r. ⌜ r ≡ isBetter f v w ⌝ }
+{
+    match f {
+        Family::MinimumDemand => v < w,
+        Family::MaximumSupply => w < v,
+    }
+}
+
+// The schedule with the better figure; of equals the one taken so far.
+fn better_of(f: Family, best: Scheduled, next: Scheduled) -> Scheduled
+    ensures { λ r. ⌜ r ≡ betterOf f best next ⌝ }
+{
+    match next {
+        Scheduled::Refused(_) => best,
+        Scheduled::Found { plan: _, supply: v } => match best {
+            Scheduled::Refused(_) => next,
+            Scheduled::Found { plan: _, supply: w } => if is_better(f, v, w) { next } else { best },
+        },
+    }
+}
+
+// The numbers of reports with which the family has a schedule: from `first` to `last`, none where `last` is below `first`.
+struct Counts {
+    first: u32,
+    last: u32,
+}
+
+fn counts_of(f: Family, s: Spec, q: Rates) -> Counts
+    requires { ⌜ (IsAccepted s) × (bothRates s ≡ Both q) ⌝ }
+    ensures exactly { λ r. ⌜ ((k : ℕ) → (exists f s q k ≡ true) ↔ ((r .first ≤ k) × (k ≤ r .last))) ⌝ }
+    ensures few { λ r. ⌜ r .last ≤ 65535 ⌝ }
+{
+    match f {
+        Family::MinimumDemand => Counts {
+            first: ceil_div(q.l as u64, s.dmax as u64) as u32,
+            last: q.p as u32 / s.smin as u32,
+        },
+        Family::MaximumSupply => Counts {
+            first: ceil_div(q.r as u64, s.smax as u64) as u32,
+            last: q.b as u32 / s.dmin as u32,
+        },
+    }
+}
+
+// The schedule with the best figure over all k, the smaller k of equals. Each k with a schedule is looked at once.
+fn best_schedule(f: Family, s: Spec, q: Rates) -> Scheduled
+    requires { ⌜ (IsAccepted s) × (bothRates s ≡ Both q) ⌝ }
+    ensures { λ r. ⌜ r ≡ taken f s q ⌝ }
+{
+    let counts = counts_of(f, s, q);
+    let last = counts.last;
+    let mut k = counts.first;
+    let mut best = Scheduled::Refused(spec::refusal::NO_COUNT);
+    while k <= last {
+        best = better_of(f, best, scheduled_with(f, s, q, k));
+        k = k + 1;
+    }
+    best
+}
+
+fn figure_passes(f: Family, q: Rates, v: u32) -> bool
+    ensures { λ r. ⌜ r ≡ passes f q v ⌝ }
+{
+    match f {
+        Family::MinimumDemand => v <= q.b as u32,
+        Family::MaximumSupply => q.l as u32 <= v,
+    }
+}
+
+fn judge(f: Family, q: Rates, best: Scheduled) -> Tested
+    ensures { λ r. ⌜ r ≡ judged f q best ⌝ }
+{
+    match best {
+        Scheduled::Refused(n) => Tested::Refused(n),
+        Scheduled::Found { plan, supply } => if figure_passes(f, q, supply) {
+            Tested::Passed { plan, supply }
+        } else {
+            Tested::Refused(spec::refusal::NOT_PASSED)
+        },
+    }
+}
+
+// The plan that passes the test with its supply figure; else the first condition that fails, or another refusal.
+pub fn test(spec: Spec) -> Tested
+    ensures { λ r. ⌜ r ≡ testOf spec ⌝ }
+{
+    let n = spec::spec_number(spec);
+    if n != 0 {
+        return Tested::Refused(n);
+    }
+    let rates = both_rates(spec);
+    let BothRates::Both(q) = rates else {
+        return Tested::Refused(spec::refusal::RATE_ABSENT);
+    };
+    let conditions = conditions_of(spec);
+    if let Conditions::FirstFailing(c) = conditions {
+        return Tested::Inconsistent(c);
+    }
+    let f = family_of(q);
+    judge(f, q, best_schedule(f, spec, q))
 }

@@ -1,0 +1,60 @@
+use borrow.Author.Needs.{needs}
+use native.Mathlib.Omega.{arith}
+use mathlib.Core.Path.{_≡_, refl, sym, _∙_}
+use Prim.Native.Nat.{_+_, _-_, _≤_}
+use Rattle.feasibility.proofs.Plans.{known}
+use Rattle.feasibility.specs.Families.{scheduled}
+use Rattle.feasibility.specs.Test.{takenUpTo}
+use Rattle.feasibility.proofs.Taking.{starts, some-first, turns, ends}
+use Rattle.feasibility.proofs.best_schedule.Statement.{statement}
+use Rattle.feasibility.proofs.best_schedule.Tie as tie
+use Rattle.feasibility.proofs.best_schedule.Reads as reads
+use Rattle.feasibility.proofs.best_schedule.Lts as lts
+use Rattle.feasibility.proofs.better_of.Reads as better-of-reads
+use Rattle.feasibility.proofs.counts_of.Reads as counts-of-reads
+use Rattle.feasibility.proofs.scheduled_with.Reads as scheduled-with-reads
+
+abbrev Inv-loop : tie.InvT-loop
+Inv-loop f s q last k₀ best₀ k best = (best ≡ takenUpTo f (scheduled f s q) (k - 1)) × (1 ≤ k)
+
+abbrev μ-loop : tie.MeasureT-loop
+μ-loop f s q last k₀ best₀ k best = last + 1 - k
+
+counts-of-requires : tie.Need-counts-of-requires Inv-loop μ-loop
+counts-of-requires c κs = c .pre
+
+loop-holds : tie.Need-loop-holds Inv-loop μ-loop
+loop-holds c = (starts _ _ (known _ _ (c .before .pre .0) (c .before .pre .1)) _ (c .counts-of .ensures .0), some-first _ _ (known _ _ (c .before .pre .0) (c .before .pre .1)) _ (c .counts-of .ensures .0))
+
+scheduled-with-requires : tie.Need-scheduled-with-requires Inv-loop μ-loop
+scheduled-with-requires c κs = c .before .before .before .pre
+
+better-of-requires : tie.Need-better-of-requires Inv-loop μ-loop
+better-of-requires c κs = search needs
+
+add-k : tie.Need-add-k Inv-loop μ-loop
+add-k c = record { fits = omega arith }
+
+loop-less : tie.Need-loop-less Inv-loop μ-loop
+loop-less c = omega arith
+
+loop-again : tie.Need-loop-again Inv-loop μ-loop
+loop-again c = (rw (c .better-of .ensures, c .before .scheduled-with .ensures) (turns _ _ (known _ _ (c .before .before .before .before .before .pre .0) (c .before .before .before .before .before .pre .1)) _ (c .before .before .before .before .counts-of .ensures .0) _ (c .before .before .before .loop .inv .1) (c .before .before .before .loop .inv .0)), omega arith)
+
+returns : tie.Need-returns Inv-loop μ-loop
+returns c = ends _ _ (known _ _ (c .before .before .before .pre .0) (c .before .before .before .pre .1)) _ (c .before .before .counts-of .ensures .0) _ (c .before .loop .inv .1) (c .loop-test .left) (c .before .loop .inv .0)
+
+pub best-schedule-spec : {M : Type 1} → statement M
+best-schedule-spec =
+    tie.close
+    (tie.spec
+    Inv-loop
+    μ-loop
+    counts-of-requires
+    loop-holds
+    scheduled-with-requires
+    better-of-requires
+    add-k
+    loop-less
+    loop-again
+    returns)

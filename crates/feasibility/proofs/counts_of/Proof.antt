@@ -1,0 +1,92 @@
+use native.Mathlib.Omega.{arith}
+use Rattle.feasibility.proofs.Plans.{known}
+use native.Mathlib.Nat.{div-le-self}
+use Rattle.spec.proofs.Facts.{facts}
+use Rattle.feasibility.proofs.Ceilings.{ceil-most}
+use Rattle.feasibility.proofs.Taking.{firstWith, lastWith, exists-iff}
+use Rattle.feasibility.specs.declared.Family.the-variants.{MinimumDemand, MaximumSupply}
+use borrow.Author.Needs.{needs}
+use Rattle.feasibility.proofs.counts_of.Statement.{statement}
+use Rattle.feasibility.proofs.counts_of.Tie as tie
+use Rattle.feasibility.proofs.counts_of.Reads as reads
+use Rattle.feasibility.proofs.counts_of.Lts as lts
+use Rattle.feasibility.proofs.ceil_div.Reads as ceil-div-reads
+
+enum-told : tie.Need-enum-told
+enum-told c = search needs
+
+cast-ceil-div : tie.Need-cast-ceil-div
+cast-ceil-div c = search needs
+
+cast-ceil-div-2 : tie.Need-cast-ceil-div-2
+cast-ceil-div-2 c = search needs
+
+ceil-div-requires : tie.Need-ceil-div-requires
+ceil-div-requires c κs = let t = facts _ (c .before .before .before .before .pre .0) in omega arith
+
+cast-t8 : tie.Need-cast-t8
+cast-t8 c = record { fits = omega (arith, ceil-most (c .before .before .before .before .before .args .q .l) (c .before .before .before .before .before .args .s .dmax)) }
+
+cast-t9 : tie.Need-cast-t9
+cast-t9 c = search needs
+
+cast-t10 : tie.Need-cast-t10
+cast-t10 c = search needs
+
+div-t11 : tie.Need-div-t11
+div-t11 c = let t = facts _ (c .before .before .before .before .before .before .before .pre .0) in t .gap-low
+
+enum-told-2 : tie.Need-enum-told-2
+enum-told-2 c = search needs
+
+cast-ceil-div-3 : tie.Need-cast-ceil-div-3
+cast-ceil-div-3 c = search needs
+
+cast-ceil-div-4 : tie.Need-cast-ceil-div-4
+cast-ceil-div-4 c = search needs
+
+ceil-div-requires-2 : tie.Need-ceil-div-requires-2
+ceil-div-requires-2 c κs = let t = facts _ (c .before .before .before .before .pre .0) in omega arith
+
+cast-t15 : tie.Need-cast-t15
+cast-t15 c = record { fits = omega (arith, ceil-most (c .before .before .before .before .before .args .q .r) (c .before .before .before .before .before .args .s .smax)) }
+
+cast-t16 : tie.Need-cast-t16
+cast-t16 c = search needs
+
+cast-t17 : tie.Need-cast-t17
+cast-t17 c = search needs
+
+div-t18 : tie.Need-div-t18
+div-t18 c = let t = facts _ (c .before .before .before .before .before .before .before .pre .0) in t .size-low
+
+returns : tie.Need-returns
+unfolding firstWith lastWith
+returns c = rw (c .before .before .before .before .before .enum-told .given .1, c .before .before .ceil-div .ensures) (λ k. exists-iff _ _ (known _ _ (c .before .before .before .before .before .before .before .pre .0) (c .before .before .before .before .before .before .before .pre .1)) MinimumDemand k, omega (arith, div-le-self (c .before .before .before .before .before .before .before .args .q .p) (c .before .before .before .before .before .before .before .args .s .smin)))
+
+returns-2 : tie.Need-returns-2
+unfolding firstWith lastWith
+returns-2 c = rw (c .before .before .before .before .before .enum-told2 .given .1, c .before .before .ceil-div2 .ensures) (λ k. exists-iff _ _ (known _ _ (c .before .before .before .before .before .before .before .pre .0) (c .before .before .before .before .before .before .before .pre .1)) MaximumSupply k, omega (arith, div-le-self (c .before .before .before .before .before .before .before .args .q .b) (c .before .before .before .before .before .before .before .args .s .dmin)))
+
+pub counts-of-spec : {M : Type 1} → statement M
+counts-of-spec =
+    tie.close
+    (tie.spec
+    enum-told
+    cast-ceil-div
+    cast-ceil-div-2
+    ceil-div-requires
+    cast-t8
+    cast-t9
+    cast-t10
+    div-t11
+    enum-told-2
+    cast-ceil-div-3
+    cast-ceil-div-4
+    ceil-div-requires-2
+    cast-t15
+    cast-t16
+    cast-t17
+    div-t18
+    returns
+    returns-2)

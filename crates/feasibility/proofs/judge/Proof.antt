@@ -1,0 +1,33 @@
+use Rattle.feasibility.specs.Test.{judged}
+use borrow.Author.Needs.{needs}
+use Rattle.feasibility.proofs.judge.Statement.{statement}
+use Rattle.feasibility.proofs.judge.Tie as tie
+use Rattle.feasibility.proofs.judge.Reads as reads
+use Rattle.feasibility.proofs.judge.Lts as lts
+use Rattle.feasibility.proofs.figure_passes.Reads as figure-passes-reads
+
+enum-known-best : tie.Need-enum-known-best
+enum-known-best c = search needs
+
+enum-known-best-2 : tie.Need-enum-known-best-2
+enum-known-best-2 c = search needs
+
+figure-passes-requires : tie.Need-figure-passes-requires
+figure-passes-requires c κs = search needs
+
+returns : tie.Need-returns
+unfolding judged
+returns c = rw (c .before .best .given .1)
+
+returns-2 : tie.Need-returns-2
+unfolding judged
+returns-2 c = rw (c .before .before .before .best2 .given .1, ← c .before .figure-passes .ensures, c .if1 .taken)
+
+returns-3 : tie.Need-returns-3
+unfolding judged
+returns-3 c = rw (c .before .before .before .best2 .given .1, ← c .before .figure-passes .ensures, c .if1 .left)
+
+pub judge-spec : {M : Type 1} → statement M
+judge-spec =
+    tie.close
+    (tie.spec enum-known-best enum-known-best-2 figure-passes-requires returns returns-2 returns-3)
