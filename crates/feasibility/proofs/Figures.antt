@@ -15,7 +15,7 @@ use Rattle.plan.specs.declared.Kind.the-variants.{WellFormed}
 use Rattle.plan.specs.declared.Plan.{Plan}
 use Rattle.plan.specs.Plans.{proper, run, kindRun}
 use Rattle.plan.proofs.Proper.{Bounds}
-use Rattle.plan.proofs.WellFormed.{wellRun, size-total, size-range, period-total, holds-most, first-period, back-thinnest, front-fullest}
+use Rattle.plan.proofs.WellFormed.{wellRun, size-total, size-range, period-total, holds-most, holds-least, first-period, back-thinnest, front-fullest}
 use Rattle.feasibility.specs.Families.{required, least, available}
 use Rattle.feasibility.proofs.Fronts.{reportsBefore, recordsOf, front, no-gap-zero, size-again, gap-again, period-end}
 
@@ -78,8 +78,12 @@ module _ (p : Plan) (ok : proper p ≡ true) (well : p .kind ≡ WellFormed) whe
   pub front-held : (x : ℕ) → x ≤ π → stretch (run p) 0 x ≡ recordsOf k δ (reportsBefore k π x)
   front-held x h = rw run-well (front k (known .one) π δ (known .long) x h)
 
-  pub front-part : (x : ℕ) → x ≤ π → stretch (run p) 0 x ≤ δ
-  front-part x h = rw run-well (holds-most k (known .one) π δ (known .long) 0 x h)
+  -- a period holds δ, a part of it at most δ, and more than one at least δ
+  pub held-within : (a w : ℕ) → w ≤ π → stretch (run p) a w ≤ δ
+  held-within a w h = rw run-well (holds-most k (known .one) π δ (known .long) a w h)
+
+  pub held-beyond : (a w : ℕ) → π ≤ w → δ ≤ stretch (run p) a w
+  held-beyond a w h = rw run-well (holds-least k (known .one) π δ (known .long) a w h)
 
   -- no report is larger than 1,000 records, and no two are at one minute
   pub held-most : (x : ℕ) → stretch (run p) 0 x ≤ x * 1000
@@ -133,6 +137,9 @@ module _ (p : Plan) (ok : proper p ≡ true) (well : p .kind ≡ WellFormed) whe
         rw (z, zero-add) at (stretch-add s (no-gap-zero k (known .one) π δ (known .long)) 0 (π - m % π) (m % π)) in
         let u : (m / π + 1) * δ ≡ m / π * δ + δ = rw (add-mul, one-mul) in
         rw (available-back, run-well) (omega (arith, periods (π - m % π) m))
+
+    pub front-fits : stretch (run p) 0 (π - m % π) ≤ (m / π + 1) * δ
+    front-fits = omega (arith, held-within 0 (π - m % π) (omega arith), add-mul (m / π) 1 δ, one-mul δ)
 
     pub available-least : (a : ℕ) → available p m ≤ stretch (run p) a m
     available-least a = rw (available-back, run-well) (back-least a)

@@ -5,3 +5,5 @@ pub mod Fronts
 pub mod Figures
 pub mod Plans
 pub mod Taking
+pub mod Best
+pub mod Theorems

@@ -3,7 +3,7 @@ use Rattle.feasibility.proofs.Products.{fits-mul}
 use mathlib.Core.Path.{_≡_, refl, sym, _∙_}
 use Prim.Native.Nat.{_+_, _*_, _-_, _/_, _%_, _≤_}
 use native.Mathlib.Nat.{div-le-self, mod-lt, le-of-lt, add-mul, one-mul}
-use Rattle.feasibility.proofs.Figures.{numbers, front-part, available-closed, available-most}
+use Rattle.feasibility.proofs.Figures.{numbers, front-fits, available-closed, available-most}
 use borrow.Author.Needs.{needs}
 use Rattle.feasibility.proofs.available_supply.Statement.{statement}
 use Rattle.feasibility.proofs.available_supply.Tie as tie
@@ -36,7 +36,7 @@ front-held-requires : tie.Need-front-held-requires
 front-held-requires c κs = search needs
 
 sub-result : tie.Need-sub-result
-sub-result c = omega (arith, front-part _ (c .before .before .before .pre .0) (c .before .before .before .pre .1) (c .before .before .before .args .plan .period - c .before .before .before .args .p % c .before .before .before .args .plan .period) (omega arith), add-mul (c .before .before .before .args .p / c .before .before .before .args .plan .period) 1 (c .before .before .before .args .plan .total), one-mul (c .before .before .before .args .plan .total))
+sub-result c = rw (c .front-held .ensures) (front-fits _ (c .before .before .before .pre .0) (c .before .before .before .pre .1) _)
 
 cast-result : tie.Need-cast-result
 cast-result c = let v = available-most _ (c .before .before .before .pre .0) (c .before .before .before .pre .1) (c .before .before .before .args .p) in let e = available-closed _ (c .before .before .before .pre .0) (c .before .before .before .pre .1) (c .before .before .before .args .p) in record { fits = omega arith }

@@ -3,7 +3,7 @@ use Rattle.feasibility.proofs.Products.{fits-mul}
 use mathlib.Core.Path.{_≡_, refl, sym, _∙_}
 use Prim.Native.Nat.{_/_, _%_, _≤_}
 use native.Mathlib.Nat.{div-le-self, mod-lt, le-of-lt, mul-le-mul}
-use Rattle.feasibility.proofs.Figures.{numbers, front-part, required-closed, required-most}
+use Rattle.feasibility.proofs.Figures.{numbers, required-closed, required-most}
 use borrow.Author.Needs.{needs}
 use Rattle.feasibility.proofs.required_supply.Statement.{statement}
 use Rattle.feasibility.proofs.required_supply.Tie as tie
