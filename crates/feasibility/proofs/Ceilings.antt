@@ -1,5 +1,5 @@
 -- Division rounded up: n is below ⌈a/b⌉ exactly when n × b is below a.
-use Prim.Native.Nat.{ℕ, _+_, _-_, _*_, _/_, _≤_, _<_}
+use Prim.Native.Nat.{ℕ, _+_, _-_, _*_, _≤_, _<_}
 use native.Mathlib.Omega.{arith}
 use native.Mathlib.Nat.{le-div-iff-mul-le, add-mul, one-mul, div-le-self}
 use mathlib.Core.Path.{_≡_}

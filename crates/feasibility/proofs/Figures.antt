@@ -1,15 +1,15 @@
 -- The supply figures of a proper well-formed plan. Whole periods hold δ each, so that both figures come down to what the first minutes
 -- of one period hold: required supply is found at its front, and available supply, the least over all starts, at its back.
-use Prim.Native.Nat.{ℕ, zero, suc, _+_, _-_, _*_, _/_, _%_, _≤_, _<_, min}
+use Prim.Native.Nat.{ℕ, zero, suc, _+_, _-_, _*_, _/_, _%_, _≤_, _<_}
 use native.Mathlib.Omega.{arith}
 use native.Mathlib.Nat.{mod-lt, add-mul, one-mul, div-add-mod', zero-add, le-trans, mul-comm, mul-le-mul-right, le-div-iff-mul-le, div-le-self}
-use mathlib.Core.Path.{_≡_, refl, sym, _∙_, ap}
+use mathlib.Core.Path.{_≡_}
 use mathlib.Core.Logic.{⊎-elim}
 use mathlib.Core.Bool.{true, and-eq-true-iff}
 use Rattle.spec.proofs.Facts.{leb-iff}
 use Rattle.schedule.specs.Schedules.{Schedule, stretch}
-use Rattle.schedule.proofs.Sums.{lt-cases, block, block-most}
-use Rattle.schedule.proofs.Before.{before, before-le, before-mono, stretch-before, stretch-add}
+use Rattle.schedule.proofs.Sums.{lt-cases, block-most}
+use Rattle.schedule.proofs.Before.{before, before-le, stretch-before, stretch-add}
 use Rattle.schedule.proofs.Repeats.{stretch-whole}
 use Rattle.plan.specs.declared.Kind.the-variants.{WellFormed}
 use Rattle.plan.specs.declared.Plan.{Plan}

@@ -3,8 +3,8 @@
 -- later. So it is before minute x exactly when i is below two quotients rounded up, and below the smaller of them.
 use Prim.Native.Nat.{ℕ, _+_, _-_, _*_, _/_, _%_, _≤_, _<_, min}
 use native.Mathlib.Omega.{arith}
-use native.Mathlib.Nat.{mod-lt, add-mul, mul-add, mul-one, one-mul, zero-mul, zero-add, sub-zero, mul-comm, le-mul-of-pos-right, add-mod-right, le-div-iff-mul-le}
-use mathlib.Core.Path.{_≡_, refl, sym, _∙_, ap}
+use native.Mathlib.Nat.{mul-add, mul-one, one-mul, zero-mul, zero-add, sub-zero, mul-comm, le-mul-of-pos-right, add-mod-right, le-div-iff-mul-le}
+use mathlib.Core.Path.{_≡_, refl, sym, _∙_}
 use mathlib.Core.Logic.{_↔_, ⊎-elim}
 use mathlib.Core.Bool.{cond}
 use lib.Dec.{leb, ltb}

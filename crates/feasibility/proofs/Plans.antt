@@ -1,26 +1,25 @@
 -- A schedule for k reports that exists has sizes and gaps in the specification's ranges: k × smin ≤ π ≤ k × smax and
 -- k × dmin ≤ δ ≤ k × dmax. So its plan is proper, and its endless run keeps the first two rules.
-use Prim.Native.Nat.{ℕ, _*_, _≤_, min, max}
+use Prim.Native.Nat.{ℕ, _*_, _≤_}
 use native.Mathlib.Omega.{arith}
 use native.Mathlib.Nat.{le-trans, le-max-left, max-le, min-le-left, le-min, mul-le-mul-left, mul-le-mul-right, mul-comm, le-mul-of-pos-right, zero-mul}
-use mathlib.Core.Path.{_≡_, refl, sym, ap}
+use mathlib.Core.Path.{_≡_, refl, sym}
 use mathlib.Core.Logic.{⊎-elim}
 use mathlib.Core.Bool.{true, false, and-eq-true-iff}
 use Rattle.spec.specs.declared.Rate.{Rate}
 use Rattle.spec.specs.declared.Rate.the-variants.{Absent, Present}
 use Rattle.spec.specs.declared.Spec.{Spec}
 use Rattle.spec.specs.Limits.{IsAccepted, rateLimits, sizeAllowed, gapAllowed}
-use Rattle.spec.proofs.Facts.{Facts, facts, leb-iff, size-allowed-iff, gap-allowed-iff}
+use Rattle.spec.proofs.Facts.{facts, leb-iff, size-allowed-iff, gap-allowed-iff}
 use Rattle.schedule.proofs.Sums.{lt-cases}
 use Rattle.plan.specs.declared.Kind.the-variants.{WellFormed}
 use Rattle.plan.specs.Plans.{proper, run, kindRun}
 use Rattle.plan.proofs.Proper.{proper-kind}
-use Rattle.plan.proofs.WellFormed.{wellRun, size-range, gap-range}
+use Rattle.plan.proofs.WellFormed.{size-range, gap-range}
 use Rattle.feasibility.specs.declared.Family.{Family}
 use Rattle.feasibility.specs.declared.Family.the-variants.{MinimumDemand, MaximumSupply}
 use Rattle.feasibility.specs.declared.Rates.{Rates}
-use Rattle.feasibility.specs.declared.BothRates.{BothRates}
-use Rattle.feasibility.specs.declared.BothRates.the-variants.{Both, Missing}
+use Rattle.feasibility.specs.declared.BothRates.the-variants.{Both}
 use Rattle.feasibility.specs.declared.Scheduled.the-variants.{Found, Refused}
 use Rattle.feasibility.specs.Families.{ratesFrom, bothRates, exists, periodFor, totalFor, planFor, supplyFigure, scheduled}
 

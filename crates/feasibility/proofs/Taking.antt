@@ -1,6 +1,6 @@
 -- Taking the best schedule: numbers of reports that have none change nothing, so that only those that have one need be looked at; and
 -- what is taken is the best of all that were looked at, the first of equals.
-use Prim.Native.Nat.{ℕ, zero, suc, _+_, _-_, _*_, _/_, _≤_, _<_}
+use Prim.Native.Nat.{ℕ, zero, suc, _+_, _-_, _/_, _≤_, _<_}
 use native.Mathlib.Omega.{arith}
 use native.Mathlib.Nat.{add-zero, add-assoc, add-comm, le-div-iff-mul-le, le-trans, le-mul-of-pos-right}
 use native.Mathlib.Numerals.{add-one}
@@ -14,12 +14,12 @@ use Rattle.feasibility.specs.declared.Family.{Family}
 use Rattle.feasibility.specs.declared.Family.the-variants.{MinimumDemand, MaximumSupply}
 use Rattle.feasibility.specs.declared.Rates.{Rates}
 use Rattle.feasibility.specs.declared.Scheduled.{Scheduled}
-use Rattle.feasibility.specs.declared.Scheduled.the-variants.{Found, Refused}
+use Rattle.feasibility.specs.declared.Scheduled.the-variants.{Refused}
 use Rattle.feasibility.specs.Consistency.{ceil}
 use Rattle.feasibility.specs.Families.{exists, scheduled}
-use Rattle.feasibility.specs.Test.{isBetter, betterOf, takenUpTo, lastCount, taken}
+use Rattle.feasibility.specs.Test.{betterOf, takenUpTo, lastCount, taken}
 use Rattle.feasibility.proofs.Ceilings.{ceil-le-iff}
-use Rattle.feasibility.proofs.Plans.{Known, InRange, in-range, scheduled-none}
+use Rattle.feasibility.proofs.Plans.{Known, in-range, scheduled-none}
 
 module _ (f : Family) (schedule : ℕ → Scheduled) where
   better-none : (t : Scheduled) (n : ℕ) → betterOf f t (Refused n) ≡ t

@@ -6,12 +6,12 @@ use native.Mathlib.Nat.{le-trans, le-max-right, min-le-right}
 use mathlib.Core.Path.{_≡_, refl, sym, _∙_, ap, subst}
 use mathlib.Core.Logic.{_⊎_, inl, inr, ⊎-elim}
 use mathlib.Core.Bool.{Bool, true, false, cond}
-use lib.Dec.{leb, eqb}
+use lib.Dec.{eqb}
 use borrow.Author.Tests.{leb-true, eqb-true, eq-eqb}
 use Rattle.spec.specs.declared.Spec.{Spec}
 use Rattle.spec.specs.Limits.{specNumber, limits, order, IsAccepted}
 use Rattle.schedule.specs.Schedules.{stretch}
-use Rattle.schedule.specs.Rules.{Obeys, SupplyKept, DemandMet}
+use Rattle.schedule.specs.Rules.{Obeys}
 use Rattle.plan.specs.declared.Kind.the-variants.{WellFormed}
 use Rattle.plan.specs.declared.Plan.{Plan}
 use Rattle.plan.specs.Plans.{proper, run}
@@ -29,13 +29,13 @@ use Rattle.feasibility.specs.declared.Scheduled.the-variants.{Found, Ref
 use Rattle.feasibility.specs.declared.Tested.{Tested}
 use Rattle.feasibility.specs.declared.Tested.the-variants.{Passed, Refused, Inconsistent}
 use Rattle.feasibility.specs.Consistency.{conditionsOf, consistencyFrom, consistencyOf}
-use Rattle.feasibility.specs.Families.{bothRates, exists, periodFor, totalFor, planFor, required, available, supplyFigure, scheduled, ifRates, scheduleFor}
+use Rattle.feasibility.specs.Families.{bothRates, periodFor, totalFor, planFor, required, supplyFigure, scheduled, ifRates, scheduleFor}
 use Rattle.feasibility.specs.Test.{familyOf, taken, passes, judged, testConditions, testRates, testOf}
-use Rattle.feasibility.specs.Statements.{TestSound, RequiredMost, AvailableLeast, AsGood, BestOfAll, TestPasses, TestNotPassed, TestNoneExists}
+use Rattle.feasibility.specs.Statements.{TestSound, RequiredMost, AvailableLeast, BestOfAll, TestPasses, TestNotPassed, TestNoneExists}
 use Rattle.feasibility.proofs.Figures.{required-fullest, available-least, available-held, held-within, held-beyond}
 use Rattle.feasibility.proofs.Plans.{Known, known, plan-proper, plan-well, plan-sizes, plan-gaps, scheduled-some}
 use Rattle.feasibility.proofs.Taking.{none-there}
-use Rattle.feasibility.proofs.Best.{good-same, good-both, Exists, found-exists, TakenOf, taken-best}
+use Rattle.feasibility.proofs.Best.{good-both, Exists, found-exists, TakenOf, taken-best}
 
 -- A schedule for k reports, once the rates are there.
 schedule-at : (f : Family) (s : Spec) (q : Rates) (k : ℕ) → IsAccepted s → bothRates s ≡ Both q → scheduleFor f s k ≡ scheduled f s q k

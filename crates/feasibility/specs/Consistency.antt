@@ -10,7 +10,6 @@ use Rattle.spec.specs.declared.Duration.{Duration}
 use Rattle.spec.specs.declared.Duration.the-variants.{Absent as NoDuration, Present as DurationOf}
 use Rattle.spec.specs.declared.Spec.{Spec}
 use Rattle.spec.specs.Limits.{specNumber}
-use Rattle.feasibility.specs.declared.Condition.{Condition}
 use Rattle.feasibility.specs.declared.Condition.the-variants.{BoundsFitRates, FewestReportsFitBudget, EnoughReportsForDemand, SupplyCoversDemand}
 use Rattle.feasibility.specs.declared.Conditions.{Conditions}
 use Rattle.feasibility.specs.declared.Conditions.the-variants.{AllHold, FirstFailing}

@@ -6,7 +6,6 @@ use mathlib.Core.Path.{_≡_}
 use mathlib.Core.Logic.{_↔_}
 use mathlib.Core.Bool.{true, false}
 use Rattle.spec.specs.declared.Spec.{Spec}
-use Rattle.spec.specs.Limits.{IsAccepted}
 use Rattle.schedule.specs.Schedules.{stretch}
 use Rattle.schedule.specs.Rules.{Obeys}
 use Rattle.plan.specs.declared.Plan.{Plan}

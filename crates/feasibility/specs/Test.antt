@@ -3,7 +3,7 @@
 -- smaller k."; and what it turns down: 3, 4, "5 a rate is absent; 7 inconsistent, and this refusal carries the condition that failed
 -- first; 8 no k has a schedule; 9 the schedule taken does not pass."
 use Prim.Native.Nat.{ℕ, zero, suc}
-use mathlib.Core.Bool.{Bool, true, false, cond}
+use mathlib.Core.Bool.{Bool, cond}
 use lib.Dec.{leb, ltb, eqb}
 use Rattle.spec.specs.declared.Spec.{Spec}
 use Rattle.spec.specs.Limits.{specNumber}

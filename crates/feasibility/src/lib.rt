@@ -349,7 +349,8 @@ fn front_held(plan: Plan, x: u64) -> u64
     let period = plan.period as u64;
     let total = plan.total as u64;
     let gap = period / k;
-    let shorter = k - period % k;
+    let longer = period % k;
+    let shorter = k - longer;
     let reports = smaller(ceil_div(x, gap), ceil_div(x + shorter, gap + 1));
     reports * (total / k) + smaller(reports, total % k)
 }

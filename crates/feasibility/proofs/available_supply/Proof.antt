@@ -1,15 +1,11 @@
 use native.Mathlib.Omega.{arith}
 use Rattle.feasibility.proofs.Products.{fits-mul}
-use mathlib.Core.Path.{_≡_, refl, sym, _∙_}
-use Prim.Native.Nat.{_+_, _*_, _-_, _/_, _%_, _≤_}
-use native.Mathlib.Nat.{div-le-self, mod-lt, le-of-lt, add-mul, one-mul}
+use mathlib.Core.Path.{sym}
+use native.Mathlib.Nat.{div-le-self, mod-lt, le-of-lt}
 use Rattle.feasibility.proofs.Figures.{numbers, front-fits, available-closed, available-most}
 use borrow.Author.Needs.{needs}
 use Rattle.feasibility.proofs.available_supply.Statement.{statement}
 use Rattle.feasibility.proofs.available_supply.Tie as tie
-use Rattle.feasibility.proofs.available_supply.Reads as reads
-use Rattle.feasibility.proofs.available_supply.Lts as lts
-use Rattle.feasibility.proofs.front_held.Reads as front-held-reads
 
 cast-period : tie.Need-cast-period
 cast-period c = search needs

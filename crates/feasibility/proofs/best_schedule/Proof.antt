@@ -1,6 +1,6 @@
 use borrow.Author.Needs.{needs}
 use native.Mathlib.Omega.{arith}
-use mathlib.Core.Path.{_≡_, refl, sym, _∙_}
+use mathlib.Core.Path.{_≡_}
 use Prim.Native.Nat.{_+_, _-_, _≤_}
 use Rattle.feasibility.proofs.Plans.{known}
 use Rattle.feasibility.specs.Families.{scheduled}
@@ -8,11 +8,6 @@ use Rattle.feasibility.specs.Test.{takenUpTo}
 use Rattle.feasibility.proofs.Taking.{starts, some-first, turns, ends}
 use Rattle.feasibility.proofs.best_schedule.Statement.{statement}
 use Rattle.feasibility.proofs.best_schedule.Tie as tie
-use Rattle.feasibility.proofs.best_schedule.Reads as reads
-use Rattle.feasibility.proofs.best_schedule.Lts as lts
-use Rattle.feasibility.proofs.better_of.Reads as better-of-reads
-use Rattle.feasibility.proofs.counts_of.Reads as counts-of-reads
-use Rattle.feasibility.proofs.scheduled_with.Reads as scheduled-with-reads
 
 abbrev Inv-loop : tie.InvT-loop
 Inv-loop f s q last k₀ best₀ k best = (best ≡ takenUpTo f (scheduled f s q) (k - 1)) × (1 ≤ k)

@@ -2,9 +2,6 @@ use Rattle.feasibility.specs.Test.{betterOf}
 use borrow.Author.Needs.{needs}
 use Rattle.feasibility.proofs.better_of.Statement.{statement}
 use Rattle.feasibility.proofs.better_of.Tie as tie
-use Rattle.feasibility.proofs.better_of.Reads as reads
-use Rattle.feasibility.proofs.better_of.Lts as lts
-use Rattle.feasibility.proofs.is_better.Reads as is-better-reads
 
 enum-told : tie.Need-enum-told
 enum-told c = search needs

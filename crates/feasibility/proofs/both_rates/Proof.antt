@@ -2,8 +2,6 @@ use Rattle.feasibility.specs.Families.{ratesFrom, bothRates}
 use borrow.Author.Needs.{needs}
 use Rattle.feasibility.proofs.both_rates.Statement.{statement}
 use Rattle.feasibility.proofs.both_rates.Tie as tie
-use Rattle.feasibility.proofs.both_rates.Reads as reads
-use Rattle.feasibility.proofs.both_rates.Lts as lts
 
 enum-told : tie.Need-enum-told
 enum-told c = search needs

@@ -2,11 +2,6 @@ use Rattle.feasibility.specs.Consistency.{boundsFitRates}
 use borrow.Author.Needs.{needs}
 use Rattle.feasibility.proofs.bounds_fit_rates.Statement.{statement}
 use Rattle.feasibility.proofs.bounds_fit_rates.Tie as tie
-use Rattle.feasibility.proofs.bounds_fit_rates.Reads as reads
-use Rattle.feasibility.proofs.bounds_fit_rates.Lts as lts
-use Rattle.feasibility.proofs.demand_fits_duration.Reads as demand-fits-duration-reads
-use Rattle.feasibility.proofs.gap_fits_demand.Reads as gap-fits-demand-reads
-use Rattle.feasibility.proofs.size_fits_budget.Reads as size-fits-budget-reads
 
 size-fits-budget-requires : tie.Need-size-fits-budget-requires
 size-fits-budget-requires c κs = search needs

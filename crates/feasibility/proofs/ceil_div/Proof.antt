@@ -1,10 +1,8 @@
-use mathlib.Core.Path.{_≡_, refl, sym, _∙_}
+use mathlib.Core.Path.{refl}
 use Rattle.feasibility.specs.Consistency.{ceil}
 use borrow.Author.Needs.{needs}
 use Rattle.feasibility.proofs.ceil_div.Statement.{statement}
 use Rattle.feasibility.proofs.ceil_div.Tie as tie
-use Rattle.feasibility.proofs.ceil_div.Reads as reads
-use Rattle.feasibility.proofs.ceil_div.Lts as lts
 
 sub-result : tie.Need-sub-result
 sub-result c = search needs

@@ -3,12 +3,6 @@ use Rattle.feasibility.specs.Consistency.{conditionsOf}
 use borrow.Author.Needs.{needs}
 use Rattle.feasibility.proofs.conditions_of.Statement.{statement}
 use Rattle.feasibility.proofs.conditions_of.Tie as tie
-use Rattle.feasibility.proofs.conditions_of.Reads as reads
-use Rattle.feasibility.proofs.conditions_of.Lts as lts
-use Rattle.feasibility.proofs.bounds_fit_rates.Reads as bounds-fit-rates-reads
-use Rattle.feasibility.proofs.enough_reports_for_demand.Reads as enough-reports-for-demand-reads
-use Rattle.feasibility.proofs.fewest_reports_fit_budget.Reads as fewest-reports-fit-budget-reads
-use Rattle.feasibility.proofs.supply_covers_demand.Reads as supply-covers-demand-reads
 
 bounds-fit-rates-requires : tie.Need-bounds-fit-rates-requires
 bounds-fit-rates-requires c κs = search needs

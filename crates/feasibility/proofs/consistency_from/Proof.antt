@@ -1,8 +1,6 @@
 use borrow.Author.Needs.{needs}
 use Rattle.feasibility.proofs.consistency_from.Statement.{statement}
 use Rattle.feasibility.proofs.consistency_from.Tie as tie
-use Rattle.feasibility.proofs.consistency_from.Reads as reads
-use Rattle.feasibility.proofs.consistency_from.Lts as lts
 
 enum-told : tie.Need-enum-told
 enum-told c = search needs

@@ -4,11 +4,6 @@ use mathlib.Core.Path.{sym, _∙_}
 use borrow.Author.Needs.{needs}
 use Rattle.feasibility.proofs.consistency_of.Statement.{statement}
 use Rattle.feasibility.proofs.consistency_of.Tie as tie
-use Rattle.feasibility.proofs.consistency_of.Reads as reads
-use Rattle.feasibility.proofs.consistency_of.Lts as lts
-use Rattle.feasibility.proofs.conditions_of.Reads as conditions-of-reads
-use Rattle.feasibility.proofs.consistency_from.Reads as consistency-from-reads
-use Rattle.spec.proofs.spec_number.Reads as spec-number-reads
 
 spec-number-requires : tie.Need-spec-number-requires
 spec-number-requires c κs = search needs

@@ -8,9 +8,6 @@ use Rattle.feasibility.specs.declared.Family.the-variants.{MinimumDemand
 use borrow.Author.Needs.{needs}
 use Rattle.feasibility.proofs.counts_of.Statement.{statement}
 use Rattle.feasibility.proofs.counts_of.Tie as tie
-use Rattle.feasibility.proofs.counts_of.Reads as reads
-use Rattle.feasibility.proofs.counts_of.Lts as lts
-use Rattle.feasibility.proofs.ceil_div.Reads as ceil-div-reads
 
 enum-told : tie.Need-enum-told
 enum-told c = search needs

@@ -2,8 +2,6 @@ use Rattle.feasibility.specs.Consistency.{whereRate, whereDuration, dema
 use borrow.Author.Needs.{needs}
 use Rattle.feasibility.proofs.demand_fits_duration.Statement.{statement}
 use Rattle.feasibility.proofs.demand_fits_duration.Tie as tie
-use Rattle.feasibility.proofs.demand_fits_duration.Reads as reads
-use Rattle.feasibility.proofs.demand_fits_duration.Lts as lts
 
 enum-told : tie.Need-enum-told
 enum-told c = search needs

@@ -4,9 +4,6 @@ use Rattle.feasibility.specs.Consistency.{whereRate, enoughReportsForDem
 use borrow.Author.Needs.{needs}
 use Rattle.feasibility.proofs.enough_reports_for_demand.Statement.{statement}
 use Rattle.feasibility.proofs.enough_reports_for_demand.Tie as tie
-use Rattle.feasibility.proofs.enough_reports_for_demand.Reads as reads
-use Rattle.feasibility.proofs.enough_reports_for_demand.Lts as lts
-use Rattle.feasibility.proofs.ceil_div.Reads as ceil-div-reads
 
 enum-told : tie.Need-enum-told
 enum-told c = search needs

@@ -2,8 +2,6 @@ use borrow.Author.Tests.{le-leb, lt-leb}
 use Rattle.feasibility.specs.Test.{familyOf}
 use Rattle.feasibility.proofs.family_of.Statement.{statement}
 use Rattle.feasibility.proofs.family_of.Tie as tie
-use Rattle.feasibility.proofs.family_of.Reads as reads
-use Rattle.feasibility.proofs.family_of.Lts as lts
 
 returns : tie.Need-returns
 unfolding familyOf

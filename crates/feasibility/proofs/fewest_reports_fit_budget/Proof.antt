@@ -6,8 +6,6 @@ use native.Mathlib.Nat.{div-le-self}
 use borrow.Author.Needs.{needs}
 use Rattle.feasibility.proofs.fewest_reports_fit_budget.Statement.{statement}
 use Rattle.feasibility.proofs.fewest_reports_fit_budget.Tie as tie
-use Rattle.feasibility.proofs.fewest_reports_fit_budget.Reads as reads
-use Rattle.feasibility.proofs.fewest_reports_fit_budget.Lts as lts
 
 enum-told : tie.Need-enum-told
 enum-told c = search needs

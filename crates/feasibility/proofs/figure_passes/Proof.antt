@@ -2,8 +2,6 @@ use Rattle.feasibility.specs.Test.{passes}
 use borrow.Author.Needs.{needs}
 use Rattle.feasibility.proofs.figure_passes.Statement.{statement}
 use Rattle.feasibility.proofs.figure_passes.Tie as tie
-use Rattle.feasibility.proofs.figure_passes.Reads as reads
-use Rattle.feasibility.proofs.figure_passes.Lts as lts
 
 enum-told : tie.Need-enum-told
 enum-told c = search needs

@@ -1,7 +1,7 @@
 use native.Mathlib.Omega.{arith}
 use Rattle.feasibility.proofs.Products.{fits-mul}
-use mathlib.Core.Path.{_≡_, refl, sym, _∙_}
-use Prim.Native.Nat.{_+_, _*_, _/_, _≤_}
+use mathlib.Core.Path.{sym}
+use Prim.Native.Nat.{_/_, _≤_}
 use native.Mathlib.Nat.{mul-le-mul}
 use Rattle.feasibility.proofs.Figures.{numbers, front-held}
 use Rattle.feasibility.proofs.Fronts.{recordsOf, reportsBefore}
@@ -9,10 +9,6 @@ use Rattle.feasibility.proofs.Ceilings.{ceil-most}
 use borrow.Author.Needs.{needs}
 use Rattle.feasibility.proofs.front_held.Statement.{statement}
 use Rattle.feasibility.proofs.front_held.Tie as tie
-use Rattle.feasibility.proofs.front_held.Reads as reads
-use Rattle.feasibility.proofs.front_held.Lts as lts
-use Rattle.feasibility.proofs.ceil_div.Reads as ceil-div-reads
-use Rattle.feasibility.proofs.smaller.Reads as smaller-reads
 
 cast-k : tie.Need-cast-k
 cast-k c = search needs
@@ -26,8 +22,8 @@ cast-total c = search needs
 div-gap : tie.Need-div-gap
 div-gap c = let n = numbers _ (c .before .before .before .pre .0) in omega arith
 
-rem-shorter : tie.Need-rem-shorter
-rem-shorter c = let n = numbers _ (c .before .before .before .pre .0) in omega arith
+rem-longer : tie.Need-rem-longer
+rem-longer c = let n = numbers _ (c .before .before .before .pre .0) in omega arith
 
 sub-shorter : tie.Need-sub-shorter
 sub-shorter c = let n = numbers _ (c .before .before .before .pre .0) in omega arith
@@ -74,7 +70,7 @@ front-held-spec =
     cast-period
     cast-total
     div-gap
-    rem-shorter
+    rem-longer
     sub-shorter
     ceil-div-requires
     add-ceil-div

@@ -2,8 +2,6 @@ use Rattle.feasibility.specs.Consistency.{whereRate, gapFitsDemand}
 use borrow.Author.Needs.{needs}
 use Rattle.feasibility.proofs.gap_fits_demand.Statement.{statement}
 use Rattle.feasibility.proofs.gap_fits_demand.Tie as tie
-use Rattle.feasibility.proofs.gap_fits_demand.Reads as reads
-use Rattle.feasibility.proofs.gap_fits_demand.Lts as lts
 
 enum-told : tie.Need-enum-told
 enum-told c = search needs

@@ -2,8 +2,6 @@ use Rattle.feasibility.specs.Test.{isBetter}
 use borrow.Author.Needs.{needs}
 use Rattle.feasibility.proofs.is_better.Statement.{statement}
 use Rattle.feasibility.proofs.is_better.Tie as tie
-use Rattle.feasibility.proofs.is_better.Reads as reads
-use Rattle.feasibility.proofs.is_better.Lts as lts
 
 enum-told : tie.Need-enum-told
 enum-told c = search needs

@@ -2,9 +2,6 @@ use Rattle.feasibility.specs.Test.{judged}
 use borrow.Author.Needs.{needs}
 use Rattle.feasibility.proofs.judge.Statement.{statement}
 use Rattle.feasibility.proofs.judge.Tie as tie
-use Rattle.feasibility.proofs.judge.Reads as reads
-use Rattle.feasibility.proofs.judge.Lts as lts
-use Rattle.feasibility.proofs.figure_passes.Reads as figure-passes-reads
 
 enum-known-best : tie.Need-enum-known-best
 enum-known-best c = search needs

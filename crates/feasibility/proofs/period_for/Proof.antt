@@ -2,11 +2,6 @@ use Rattle.feasibility.specs.Families.{periodFor}
 use borrow.Author.Needs.{needs}
 use Rattle.feasibility.proofs.period_for.Statement.{statement}
 use Rattle.feasibility.proofs.period_for.Tie as tie
-use Rattle.feasibility.proofs.period_for.Reads as reads
-use Rattle.feasibility.proofs.period_for.Lts as lts
-use Rattle.feasibility.proofs.larger.Reads as larger-reads
-use Rattle.feasibility.proofs.smaller.Reads as smaller-reads
-use Rattle.feasibility.proofs.times.Reads as times-reads
 
 enum-told : tie.Need-enum-told
 enum-told c = search needs

@@ -1,14 +1,10 @@
-use Rattle.feasibility.proofs.Plans.{known, plan-proper, plan-well, scheduled-none, scheduled-some}
+use Rattle.feasibility.proofs.Plans.{known, plan-proper}
 use native.Mathlib.Omega.{arith}
 use Rattle.feasibility.specs.Families.{planFor}
 use Rattle.feasibility.proofs.Figures.{numbers}
 use borrow.Author.Needs.{needs}
 use Rattle.feasibility.proofs.plan_for.Statement.{statement}
 use Rattle.feasibility.proofs.plan_for.Tie as tie
-use Rattle.feasibility.proofs.plan_for.Reads as reads
-use Rattle.feasibility.proofs.plan_for.Lts as lts
-use Rattle.feasibility.proofs.period_for.Reads as period-for-reads
-use Rattle.feasibility.proofs.total_for.Reads as total-for-reads
 
 period-for-requires : tie.Need-period-for-requires
 period-for-requires c κs = search needs

@@ -1,15 +1,11 @@
 use native.Mathlib.Omega.{arith}
 use Rattle.feasibility.proofs.Products.{fits-mul}
-use mathlib.Core.Path.{_≡_, refl, sym, _∙_}
-use Prim.Native.Nat.{_/_, _%_, _≤_}
-use native.Mathlib.Nat.{div-le-self, mod-lt, le-of-lt, mul-le-mul}
+use mathlib.Core.Path.{sym}
+use native.Mathlib.Nat.{div-le-self, mod-lt, le-of-lt}
 use Rattle.feasibility.proofs.Figures.{numbers, required-closed, required-most}
 use borrow.Author.Needs.{needs}
 use Rattle.feasibility.proofs.required_supply.Statement.{statement}
 use Rattle.feasibility.proofs.required_supply.Tie as tie
-use Rattle.feasibility.proofs.required_supply.Reads as reads
-use Rattle.feasibility.proofs.required_supply.Lts as lts
-use Rattle.feasibility.proofs.front_held.Reads as front-held-reads
 
 cast-period : tie.Need-cast-period
 cast-period c = search needs

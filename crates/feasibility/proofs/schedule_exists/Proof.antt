@@ -2,9 +2,6 @@ use Rattle.feasibility.specs.Families.{exists}
 use borrow.Author.Needs.{needs}
 use Rattle.feasibility.proofs.schedule_exists.Statement.{statement}
 use Rattle.feasibility.proofs.schedule_exists.Tie as tie
-use Rattle.feasibility.proofs.schedule_exists.Reads as reads
-use Rattle.feasibility.proofs.schedule_exists.Lts as lts
-use Rattle.feasibility.proofs.times.Reads as times-reads
 
 enum-told : tie.Need-enum-told
 enum-told c = search needs

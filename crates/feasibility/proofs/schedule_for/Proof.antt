@@ -1,14 +1,9 @@
-use mathlib.Core.Path.{_≡_, refl, sym, _∙_}
+use mathlib.Core.Path.{sym, _∙_}
 use borrow.Author.Tests.{eq-eqb, ne-eqb}
 use Rattle.feasibility.specs.Families.{ifRates, scheduleFor}
 use borrow.Author.Needs.{needs}
 use Rattle.feasibility.proofs.schedule_for.Statement.{statement}
 use Rattle.feasibility.proofs.schedule_for.Tie as tie
-use Rattle.feasibility.proofs.schedule_for.Reads as reads
-use Rattle.feasibility.proofs.schedule_for.Lts as lts
-use Rattle.feasibility.proofs.both_rates.Reads as both-rates-reads
-use Rattle.feasibility.proofs.scheduled_with.Reads as scheduled-with-reads
-use Rattle.spec.proofs.spec_number.Reads as spec-number-reads
 
 spec-number-requires : tie.Need-spec-number-requires
 spec-number-requires c κs = search needs

@@ -1,14 +1,9 @@
 use Rattle.feasibility.proofs.Plans.{known, plan-proper, plan-well, scheduled-none, scheduled-some}
-use mathlib.Core.Path.{_≡_, refl, sym, _∙_}
+use mathlib.Core.Path.{sym}
 use Rattle.feasibility.proofs.Negated.{held, failed}
 use borrow.Author.Needs.{needs}
 use Rattle.feasibility.proofs.scheduled_with.Statement.{statement}
 use Rattle.feasibility.proofs.scheduled_with.Tie as tie
-use Rattle.feasibility.proofs.scheduled_with.Reads as reads
-use Rattle.feasibility.proofs.scheduled_with.Lts as lts
-use Rattle.feasibility.proofs.plan_for.Reads as plan-for-reads
-use Rattle.feasibility.proofs.schedule_exists.Reads as schedule-exists-reads
-use Rattle.feasibility.proofs.supply_figure.Reads as supply-figure-reads
 
 schedule-exists-requires : tie.Need-schedule-exists-requires
 schedule-exists-requires c κs = search needs

@@ -2,8 +2,6 @@ use Rattle.feasibility.specs.Consistency.{whereRate, sizeFitsBudget}
 use borrow.Author.Needs.{needs}
 use Rattle.feasibility.proofs.size_fits_budget.Statement.{statement}
 use Rattle.feasibility.proofs.size_fits_budget.Tie as tie
-use Rattle.feasibility.proofs.size_fits_budget.Reads as reads
-use Rattle.feasibility.proofs.size_fits_budget.Lts as lts
 
 enum-told : tie.Need-enum-told
 enum-told c = search needs

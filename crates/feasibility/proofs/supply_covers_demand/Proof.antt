@@ -1,11 +1,8 @@
-use native.Mathlib.Omega.{arith}
 use Rattle.feasibility.proofs.Products.{fits-mul}
 use Rattle.feasibility.specs.Consistency.{whereRate, supplyCoversDemand}
 use borrow.Author.Needs.{needs}
 use Rattle.feasibility.proofs.supply_covers_demand.Statement.{statement}
 use Rattle.feasibility.proofs.supply_covers_demand.Tie as tie
-use Rattle.feasibility.proofs.supply_covers_demand.Reads as reads
-use Rattle.feasibility.proofs.supply_covers_demand.Lts as lts
 
 enum-told : tie.Need-enum-told
 enum-told c = search needs

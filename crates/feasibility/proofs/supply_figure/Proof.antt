@@ -2,10 +2,6 @@ use Rattle.feasibility.specs.Families.{supplyFigure}
 use borrow.Author.Needs.{needs}
 use Rattle.feasibility.proofs.supply_figure.Statement.{statement}
 use Rattle.feasibility.proofs.supply_figure.Tie as tie
-use Rattle.feasibility.proofs.supply_figure.Reads as reads
-use Rattle.feasibility.proofs.supply_figure.Lts as lts
-use Rattle.feasibility.proofs.available_supply.Reads as available-supply-reads
-use Rattle.feasibility.proofs.required_supply.Reads as required-supply-reads
 
 enum-told : tie.Need-enum-told
 enum-told c = search needs

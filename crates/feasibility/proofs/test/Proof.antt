@@ -1,17 +1,9 @@
-use mathlib.Core.Path.{_≡_, refl, sym, _∙_}
+use mathlib.Core.Path.{sym, _∙_}
 use borrow.Author.Tests.{eq-eqb, ne-eqb}
 use Rattle.feasibility.specs.Test.{testConditions, testRates, testOf}
 use borrow.Author.Needs.{needs}
 use Rattle.feasibility.proofs.test.Statement.{statement}
 use Rattle.feasibility.proofs.test.Tie as tie
-use Rattle.feasibility.proofs.test.Reads as reads
-use Rattle.feasibility.proofs.test.Lts as lts
-use Rattle.feasibility.proofs.best_schedule.Reads as best-schedule-reads
-use Rattle.feasibility.proofs.both_rates.Reads as both-rates-reads
-use Rattle.feasibility.proofs.conditions_of.Reads as conditions-of-reads
-use Rattle.feasibility.proofs.family_of.Reads as family-of-reads
-use Rattle.feasibility.proofs.judge.Reads as judge-reads
-use Rattle.spec.proofs.spec_number.Reads as spec-number-reads
 
 spec-number-requires : tie.Need-spec-number-requires
 spec-number-requires c κs = search needs

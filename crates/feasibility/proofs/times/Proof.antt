@@ -2,8 +2,6 @@ use Rattle.feasibility.proofs.Products.{fits-mul}
 use borrow.Author.Needs.{needs}
 use Rattle.feasibility.proofs.times.Statement.{statement}
 use Rattle.feasibility.proofs.times.Tie as tie
-use Rattle.feasibility.proofs.times.Reads as reads
-use Rattle.feasibility.proofs.times.Lts as lts
 
 mul-result : tie.Need-mul-result
 mul-result c = record { fits = fits-mul 64 4294967295 65535 tt (search needs) (search needs) }
