@@ -1,3 +1,5 @@
+-- `available-closed`: the least is what ends with a period, and with the front that it leaves out it is whole periods. The figure is at
+-- most 1,000 records a minute, so that it fits (`available-most`).
 use native.Mathlib.Omega.{arith}
 use Rattle.feasibility.proofs.Products.{fits-mul}
 use mathlib.Core.Path.{sym}
@@ -17,28 +19,43 @@ div-result : tie.Need-div-result
 div-result c = let n = numbers _ (c .before .before .pre .0) in omega arith
 
 add-result : tie.Need-add-result
-add-result c = record { fits = omega (arith, div-le-self (c .before .before .args .p) (c .before .before .args .plan .period)) }
+add-result c =
+    let start = c .before .before in
+    record { fits = omega (arith, div-le-self (start .args .p) (start .args .plan .period)) }
 
 mul-result : tie.Need-mul-result
-mul-result c = let n = numbers _ (c .before .before .pre .0) in record { fits = fits-mul 64 65536 20160000 tt (omega (arith, div-le-self (c .before .before .args .p) (c .before .before .args .plan .period))) (n .total) }
+mul-result c =
+    let start = c .before .before in
+    let n = numbers _ (start .pre .0) in
+    record { fits = fits-mul 64 65536 20160000 tt (omega (arith, div-le-self (start .args .p) (start .args .plan .period))) (n .total) }
 
 rem-front-held : tie.Need-rem-front-held
 rem-front-held c = let n = numbers _ (c .before .before .pre .0) in omega arith
 
 sub-front-held : tie.Need-sub-front-held
-sub-front-held c = let n = numbers _ (c .before .before .pre .0) in le-of-lt (mod-lt (c .before .before .args .p) (n .period .0))
+sub-front-held c =
+    let start = c .before .before in
+    le-of-lt (mod-lt (start .args .p) (numbers _ (start .pre .0) .period .0))
 
 front-held-requires : tie.Need-front-held-requires
 front-held-requires c κs = search needs
 
 sub-result : tie.Need-sub-result
-sub-result c = rw (c .front-held .ensures) (front-fits _ (c .before .before .before .pre .0) (c .before .before .before .pre .1) _)
+sub-result c =
+    let start = c .before .before .before in
+    rw (c .front-held .ensures) (front-fits _ (start .pre .0) (start .pre .1) _)
 
 cast-result : tie.Need-cast-result
-cast-result c = let v = available-most _ (c .before .before .before .pre .0) (c .before .before .before .pre .1) (c .before .before .before .args .p) in let e = available-closed _ (c .before .before .before .pre .0) (c .before .before .before .pre .1) (c .before .before .before .args .p) in record { fits = omega arith }
+cast-result c =
+    let start = c .before .before .before in
+    let most = available-most _ (start .pre .0) (start .pre .1) (start .args .p) in
+    let closed = available-closed _ (start .pre .0) (start .pre .1) (start .args .p) in
+    record { fits = omega arith }
 
 returns : tie.Need-returns
-returns c = rw (c .front-held .ensures) (sym (available-closed _ (c .before .before .before .pre .0) (c .before .before .before .pre .1) _))
+returns c =
+    let start = c .before .before .before in
+    rw (c .front-held .ensures) (sym (available-closed _ (start .pre .0) (start .pre .1) _))
 
 pub available-supply-spec : {M : Type 1} → statement M
 available-supply-spec =

@@ -1,3 +1,5 @@
+-- The invariant: what is taken so far is the best up to k - 1 reports. It holds at the first k with a schedule, since none before
+-- it has one (`starts`), goes on by one k (`turns`), and past the last k it is the best of all (`ends`).
 use borrow.Author.Needs.{needs}
 use native.Mathlib.Omega.{arith}
 use mathlib.Core.Path.{_≡_}
@@ -19,7 +21,9 @@ counts-of-requires : tie.Need-counts-of-requires Inv-loop μ-loop
 counts-of-requires c κs = c .pre
 
 loop-holds : tie.Need-loop-holds Inv-loop μ-loop
-loop-holds c = (starts _ _ (known _ _ (c .before .pre .0) (c .before .pre .1)) _ (c .counts-of .ensures .0), some-first _ _ (known _ _ (c .before .pre .0) (c .before .pre .1)) _ (c .counts-of .ensures .0))
+loop-holds c =
+    let n = known _ _ (c .before .pre .0) (c .before .pre .1) in
+    (starts _ _ n _ (c .counts-of .ensures .0), some-first _ _ n _ (c .counts-of .ensures .0))
 
 scheduled-with-requires : tie.Need-scheduled-with-requires Inv-loop μ-loop
 scheduled-with-requires c κs = c .before .before .before .pre
@@ -34,10 +38,20 @@ loop-less : tie.Need-loop-less Inv-loop μ-loop
 loop-less c = omega arith
 
 loop-again : tie.Need-loop-again Inv-loop μ-loop
-loop-again c = (rw (c .better-of .ensures, c .before .scheduled-with .ensures) (turns _ _ (known _ _ (c .before .before .before .before .before .pre .0) (c .before .before .before .before .before .pre .1)) _ (c .before .before .before .before .counts-of .ensures .0) _ (c .before .before .before .loop .inv .1) (c .before .before .before .loop .inv .0)), omega arith)
+loop-again c =
+    let loop = c .before .before .before in
+    let start = loop .before .before in
+    let n = known _ _ (start .pre .0) (start .pre .1) in (
+      rw (c .better-of .ensures, c .before .scheduled-with .ensures)
+          (turns _ _ n _ (loop .before .counts-of .ensures .0) _ (loop .loop .inv .1) (loop .loop .inv .0)),
+      omega arith,
+    )
 
 returns : tie.Need-returns Inv-loop μ-loop
-returns c = ends _ _ (known _ _ (c .before .before .before .pre .0) (c .before .before .before .pre .1)) _ (c .before .before .counts-of .ensures .0) _ (c .before .loop .inv .1) (c .loop-test .left) (c .before .loop .inv .0)
+returns c =
+    let start = c .before .before .before in
+    let n = known _ _ (start .pre .0) (start .pre .1) in
+    ends _ _ n _ (c .before .before .counts-of .ensures .0) _ (c .before .loop .inv .1) (c .loop-test .left) (c .before .loop .inv .0)
 
 pub best-schedule-spec : {M : Type 1} → statement M
 best-schedule-spec =

@@ -1,3 +1,4 @@
+-- By whether the next, then whether the one taken so far is a schedule, then by the figures.
 use Rattle.feasibility.specs.Test.{betterOf}
 use borrow.Author.Needs.{needs}
 use Rattle.feasibility.proofs.better_of.Statement.{statement}

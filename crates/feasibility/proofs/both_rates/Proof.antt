@@ -1,3 +1,4 @@
+-- By whether each rate is there.
 use Rattle.feasibility.specs.Families.{ratesFrom, bothRates}
 use borrow.Author.Needs.{needs}
 use Rattle.feasibility.proofs.both_rates.Statement.{statement}

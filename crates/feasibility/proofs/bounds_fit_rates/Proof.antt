@@ -1,3 +1,4 @@
+-- The three parts, each by its function.
 use Rattle.feasibility.specs.Consistency.{boundsFitRates}
 use borrow.Author.Needs.{needs}
 use Rattle.feasibility.proofs.bounds_fit_rates.Statement.{statement}

@@ -1,3 +1,4 @@
+-- The definition's own formula.
 use mathlib.Core.Path.{refl}
 use Rattle.feasibility.specs.Consistency.{ceil}
 use borrow.Author.Needs.{needs}

@@ -1,3 +1,4 @@
+-- Each return rewrites the definition by the conditions that were found to hold, and by the one that failed.
 use Rattle.feasibility.proofs.Negated.{held, failed}
 use Rattle.feasibility.specs.Consistency.{conditionsOf}
 use borrow.Author.Needs.{needs}
@@ -16,25 +17,46 @@ fewest-reports-fit-budget-requires c κs = search needs
 
 returns-2 : tie.Need-returns-2
 unfolding conditionsOf
-returns-2 c = rw (held (c .before .before .before .bounds-fit-rates .ensures) (c .before .before .if1 .left), failed (c .before .fewest-reports-fit-budget .ensures) (c .if2 .taken))
+returns-2 c =
+    rw (
+      held (c .before .before .before .bounds-fit-rates .ensures) (c .before .before .if1 .left),
+      failed (c .before .fewest-reports-fit-budget .ensures) (c .if2 .taken),
+    )
 
 enough-reports-for-demand-requires : tie.Need-enough-reports-for-demand-requires
 enough-reports-for-demand-requires c κs = search needs
 
 returns-3 : tie.Need-returns-3
 unfolding conditionsOf
-returns-3 c = rw (held (c .before .before .before .before .before .bounds-fit-rates .ensures) (c .before .before .before .before .if1 .left), held (c .before .before .before .fewest-reports-fit-budget .ensures) (c .before .before .if2 .left), failed (c .before .enough-reports-for-demand .ensures) (c .if3 .taken))
+returns-3 c =
+    rw (
+      held (c .before .before .before .before .before .bounds-fit-rates .ensures) (c .before .before .before .before .if1 .left),
+      held (c .before .before .before .fewest-reports-fit-budget .ensures) (c .before .before .if2 .left),
+      failed (c .before .enough-reports-for-demand .ensures) (c .if3 .taken),
+    )
 
 supply-covers-demand-requires : tie.Need-supply-covers-demand-requires
 supply-covers-demand-requires c κs = search needs
 
 returns-4 : tie.Need-returns-4
 unfolding conditionsOf
-returns-4 c = rw (held (c .before .before .before .before .before .before .before .bounds-fit-rates .ensures) (c .before .before .before .before .before .before .if1 .left), held (c .before .before .before .before .before .fewest-reports-fit-budget .ensures) (c .before .before .before .before .if2 .left), held (c .before .before .before .enough-reports-for-demand .ensures) (c .before .before .if3 .left), failed (c .before .supply-covers-demand .ensures) (c .if4 .taken))
+returns-4 c =
+    rw (
+      held (c .before .before .before .before .before .before .before .bounds-fit-rates .ensures) (c .before .before .before .before .before .before .if1 .left),
+      held (c .before .before .before .before .before .fewest-reports-fit-budget .ensures) (c .before .before .before .before .if2 .left),
+      held (c .before .before .before .enough-reports-for-demand .ensures) (c .before .before .if3 .left),
+      failed (c .before .supply-covers-demand .ensures) (c .if4 .taken),
+    )
 
 returns-5 : tie.Need-returns-5
 unfolding conditionsOf
-returns-5 c = rw (held (c .before .before .before .before .before .before .before .bounds-fit-rates .ensures) (c .before .before .before .before .before .before .if1 .left), held (c .before .before .before .before .before .fewest-reports-fit-budget .ensures) (c .before .before .before .before .if2 .left), held (c .before .before .before .enough-reports-for-demand .ensures) (c .before .before .if3 .left), held (c .before .supply-covers-demand .ensures) (c .if4 .left))
+returns-5 c =
+    rw (
+      held (c .before .before .before .before .before .before .before .bounds-fit-rates .ensures) (c .before .before .before .before .before .before .if1 .left),
+      held (c .before .before .before .before .before .fewest-reports-fit-budget .ensures) (c .before .before .before .before .if2 .left),
+      held (c .before .before .before .enough-reports-for-demand .ensures) (c .before .before .if3 .left),
+      held (c .before .supply-covers-demand .ensures) (c .if4 .left),
+    )
 
 pub conditions-of-spec : {M : Type 1} → statement M
 conditions-of-spec =

@@ -1,3 +1,4 @@
+-- By cases of the conditions.
 use borrow.Author.Needs.{needs}
 use Rattle.feasibility.proofs.consistency_from.Statement.{statement}
 use Rattle.feasibility.proofs.consistency_from.Tie as tie

@@ -1,3 +1,4 @@
+-- 3 and 4 by `spec_number`; the first condition that fails by `conditions_of`, whose divisors are no 0 in an accepted specification.
 use borrow.Author.Tests.{eq-eqb, ne-eqb}
 use Rattle.feasibility.specs.Consistency.{consistencyOf}
 use mathlib.Core.Path.{sym, _∙_}
@@ -20,7 +21,9 @@ consistency-from-requires c κs = search needs
 
 returns-2 : tie.Need-returns-2
 unfolding consistencyOf
-returns-2 c = rw (c .consistency-from .ensures, c .before .conditions-of .ensures, ← c .before .before .before .spec-number .ensures, eq-eqb _ 0 (c .before .before .if1 .left))
+returns-2 c =
+    let start = c .before .before in
+    rw (c .consistency-from .ensures, c .before .conditions-of .ensures, ← start .before .spec-number .ensures, eq-eqb _ 0 (start .if1 .left))
 
 pub consistency-of-spec : {M : Type 1} → statement M
 consistency-of-spec =

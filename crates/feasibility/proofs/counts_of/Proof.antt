@@ -1,3 +1,4 @@
+-- Both ends are quotients, and `exists-iff` says that exactly the numbers from one to the other have a schedule.
 use native.Mathlib.Omega.{arith}
 use Rattle.feasibility.proofs.Plans.{known}
 use native.Mathlib.Nat.{div-le-self}
@@ -22,7 +23,9 @@ ceil-div-requires : tie.Need-ceil-div-requires
 ceil-div-requires c κs = let t = facts _ (c .before .before .before .before .pre .0) in omega arith
 
 cast-t8 : tie.Need-cast-t8
-cast-t8 c = record { fits = omega (arith, ceil-most (c .before .before .before .before .before .args .q .l) (c .before .before .before .before .before .args .s .dmax)) }
+cast-t8 c =
+    let start = c .before .before .before .before .before in
+    record { fits = omega (arith, ceil-most (start .args .q .l) (start .args .s .dmax)) }
 
 cast-t9 : tie.Need-cast-t9
 cast-t9 c = search needs
@@ -31,7 +34,7 @@ cast-t10 : tie.Need-cast-t10
 cast-t10 c = search needs
 
 div-t11 : tie.Need-div-t11
-div-t11 c = let t = facts _ (c .before .before .before .before .before .before .before .pre .0) in t .gap-low
+div-t11 c = facts _ (c .before .before .before .before .before .before .before .pre .0) .gap-low
 
 enum-told-2 : tie.Need-enum-told-2
 enum-told-2 c = search needs
@@ -46,7 +49,9 @@ ceil-div-requires-2 : tie.Need-ceil-div-requires-2
 ceil-div-requires-2 c κs = let t = facts _ (c .before .before .before .before .pre .0) in omega arith
 
 cast-t15 : tie.Need-cast-t15
-cast-t15 c = record { fits = omega (arith, ceil-most (c .before .before .before .before .before .args .q .r) (c .before .before .before .before .before .args .s .smax)) }
+cast-t15 c =
+    let start = c .before .before .before .before .before in
+    record { fits = omega (arith, ceil-most (start .args .q .r) (start .args .s .smax)) }
 
 cast-t16 : tie.Need-cast-t16
 cast-t16 c = search needs
@@ -55,15 +60,23 @@ cast-t17 : tie.Need-cast-t17
 cast-t17 c = search needs
 
 div-t18 : tie.Need-div-t18
-div-t18 c = let t = facts _ (c .before .before .before .before .before .before .before .pre .0) in t .size-low
+div-t18 c = facts _ (c .before .before .before .before .before .before .before .pre .0) .size-low
 
 returns : tie.Need-returns
 unfolding firstWith lastWith
-returns c = rw (c .before .before .before .before .before .enum-told .given .1, c .before .before .ceil-div .ensures) (λ k. exists-iff _ _ (known _ _ (c .before .before .before .before .before .before .before .pre .0) (c .before .before .before .before .before .before .before .pre .1)) MinimumDemand k, omega (arith, div-le-self (c .before .before .before .before .before .before .before .args .q .p) (c .before .before .before .before .before .before .before .args .s .smin)))
+returns c =
+    let start = c .before .before .before .before .before .before .before in
+    let n = known _ _ (start .pre .0) (start .pre .1) in
+    rw (c .before .before .before .before .before .enum-told .given .1, c .before .before .ceil-div .ensures)
+    (λ k. exists-iff _ _ n MinimumDemand k, omega (arith, div-le-self (start .args .q .p) (start .args .s .smin)))
 
 returns-2 : tie.Need-returns-2
 unfolding firstWith lastWith
-returns-2 c = rw (c .before .before .before .before .before .enum-told2 .given .1, c .before .before .ceil-div2 .ensures) (λ k. exists-iff _ _ (known _ _ (c .before .before .before .before .before .before .before .pre .0) (c .before .before .before .before .before .before .before .pre .1)) MaximumSupply k, omega (arith, div-le-self (c .before .before .before .before .before .before .before .args .q .b) (c .before .before .before .before .before .before .before .args .s .dmin)))
+returns-2 c =
+    let start = c .before .before .before .before .before .before .before in
+    let n = known _ _ (start .pre .0) (start .pre .1) in
+    rw (c .before .before .before .before .before .enum-told2 .given .1, c .before .before .ceil-div2 .ensures)
+    (λ k. exists-iff _ _ n MaximumSupply k, omega (arith, div-le-self (start .args .q .b) (start .args .s .dmin)))
 
 pub counts-of-spec : {M : Type 1} → statement M
 counts-of-spec =

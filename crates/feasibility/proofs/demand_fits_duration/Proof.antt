@@ -1,3 +1,4 @@
+-- By whether the demand rate and the duration are there.
 use Rattle.feasibility.specs.Consistency.{whereRate, whereDuration, demandFitsDuration}
 use borrow.Author.Needs.{needs}
 use Rattle.feasibility.proofs.demand_fits_duration.Statement.{statement}

@@ -1,3 +1,4 @@
+-- By the test of P and R.
 use borrow.Author.Tests.{le-leb, lt-leb}
 use Rattle.feasibility.specs.Test.{familyOf}
 use Rattle.feasibility.proofs.family_of.Statement.{statement}

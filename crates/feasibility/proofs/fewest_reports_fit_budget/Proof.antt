@@ -1,3 +1,4 @@
+-- By whether the supply rate is there; smax is no 0 in an accepted specification.
 use native.Mathlib.Omega.{arith}
 use Rattle.spec.proofs.Facts.{facts}
 use Rattle.feasibility.proofs.Products.{fits-mul}

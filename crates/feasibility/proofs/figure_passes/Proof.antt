@@ -1,3 +1,4 @@
+-- By family.
 use Rattle.feasibility.specs.Test.{passes}
 use borrow.Author.Needs.{needs}
 use Rattle.feasibility.proofs.figure_passes.Statement.{statement}

@@ -1,3 +1,5 @@
+-- The code is the closed form of Fronts.antt, `recordsOf` the reports before minute x. All that is left are bounds: a quotient rounded
+-- up is at most two periods, and a size at most a total.
 use native.Mathlib.Omega.{arith}
 use Rattle.feasibility.proofs.Products.{fits-mul}
 use mathlib.Core.Path.{sym}
@@ -47,7 +49,11 @@ div-result : tie.Need-div-result
 div-result c = let n = numbers _ (c .before .before .before .before .before .before .pre .0) in omega arith
 
 mul-result : tie.Need-mul-result
-mul-result c = let n = numbers _ (c .before .before .before .before .before .before .pre .0) in record { fits = fits-mul 64 812851200 20160000 tt (omega (arith, ceil-most (c .before .before .before .before .before .before .args .x) (c .before .before .before .before .before .before .args .plan .period / c .before .before .before .before .before .before .args .plan .count))) (n .size) }
+mul-result c =
+    let start = c .before .before .before .before .before .before in
+    let n = numbers _ (start .pre .0) in
+    let few = ceil-most (start .args .x) (start .args .plan .period / start .args .plan .count) in
+    record { fits = fits-mul 64 812851200 20160000 tt (omega arith) (n .size) }
 
 rem-smaller : tie.Need-rem-smaller
 rem-smaller c = let n = numbers _ (c .before .before .before .before .before .before .pre .0) in omega arith
@@ -56,11 +62,19 @@ smaller-requires-2 : tie.Need-smaller-requires-2
 smaller-requires-2 c κs = search needs
 
 add-result : tie.Need-add-result
-add-result c = let n = numbers _ (c .before .before .before .before .before .before .before .pre .0) in let r : c .before .smaller .result ≤ 812851200 = omega (arith, ceil-most (c .before .before .before .before .before .before .before .args .x) (c .before .before .before .before .before .before .before .args .plan .period / c .before .before .before .before .before .before .before .args .plan .count)) in record { fits = omega (arith, mul-le-mul {n₂ = 812851200} {m₂ = 20160000} r (n .size)) }
+add-result c =
+    let start = c .before .before .before .before .before .before .before in
+    let n = numbers _ (start .pre .0) in
+    let few = ceil-most (start .args .x) (start .args .plan .period / start .args .plan .count) in
+    let r : c .before .smaller .result ≤ 812851200 = omega arith in
+    record { fits = omega (arith, mul-le-mul {n₂ = 812851200} {m₂ = 20160000} r (n .size)) }
 
 returns : tie.Need-returns
 unfolding recordsOf reportsBefore
-returns c = rw (c .smaller2 .ensures, c .before .smaller .ensures, c .before .before .ceil-div2 .ensures, c .before .before .before .ceil-div .ensures) (sym (front-held _ (c .before .before .before .before .before .before .before .pre .0) (c .before .before .before .before .before .before .before .pre .1) _ (c .before .before .before .before .before .before .before .pre .2)))
+returns c =
+    let start = c .before .before .before .before .before .before .before in
+    rw (c .smaller2 .ensures, c .before .smaller .ensures, c .before .before .ceil-div2 .ensures, c .before .before .before .ceil-div .ensures)
+    (sym (front-held _ (start .pre .0) (start .pre .1) _ (start .pre .2)))
 
 pub front-held-spec : {M : Type 1} → statement M
 front-held-spec =

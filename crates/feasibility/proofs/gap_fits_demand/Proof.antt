@@ -1,3 +1,4 @@
+-- By whether the demand rate is there.
 use Rattle.feasibility.specs.Consistency.{whereRate, gapFitsDemand}
 use borrow.Author.Needs.{needs}
 use Rattle.feasibility.proofs.gap_fits_demand.Statement.{statement}

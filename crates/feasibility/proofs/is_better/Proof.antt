@@ -1,3 +1,4 @@
+-- By family.
 use Rattle.feasibility.specs.Test.{isBetter}
 use borrow.Author.Needs.{needs}
 use Rattle.feasibility.proofs.is_better.Statement.{statement}

@@ -1,3 +1,4 @@
+-- By whether a schedule was taken, then by whether its figure passes.
 use Rattle.feasibility.specs.Test.{judged}
 use borrow.Author.Needs.{needs}
 use Rattle.feasibility.proofs.judge.Statement.{statement}

@@ -1,3 +1,4 @@
+-- By family.
 use Rattle.feasibility.specs.Families.{periodFor}
 use borrow.Author.Needs.{needs}
 use Rattle.feasibility.proofs.period_for.Statement.{statement}

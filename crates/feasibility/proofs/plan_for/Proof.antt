@@ -1,3 +1,4 @@
+-- A schedule that exists has a proper plan, so that its period and total fit 32 bits.
 use Rattle.feasibility.proofs.Plans.{known, plan-proper}
 use native.Mathlib.Omega.{arith}
 use Rattle.feasibility.specs.Families.{planFor}
@@ -11,14 +12,20 @@ period-for-requires c κs = search needs
 
 cast-t7 : tie.Need-cast-t7
 unfolding planFor
-cast-t7 c = let n = numbers _ (plan-proper _ _ (known _ _ (c .before .pre .0) (c .before .pre .1)) _ _ (c .before .pre .2)) in record { fits = omega arith }
+cast-t7 c =
+    let start = c .before in
+    let n = numbers _ (plan-proper _ _ (known _ _ (start .pre .0) (start .pre .1)) _ _ (start .pre .2)) in
+    record { fits = omega arith }
 
 total-for-requires : tie.Need-total-for-requires
 total-for-requires c κs = search needs
 
 cast-t9 : tie.Need-cast-t9
 unfolding planFor
-cast-t9 c = let n = numbers _ (plan-proper _ _ (known _ _ (c .before .before .pre .0) (c .before .before .pre .1)) _ _ (c .before .before .pre .2)) in record { fits = omega arith }
+cast-t9 c =
+    let start = c .before .before in
+    let n = numbers _ (plan-proper _ _ (known _ _ (start .pre .0) (start .pre .1)) _ _ (start .pre .2)) in
+    record { fits = omega arith }
 
 returns : tie.Need-returns
 unfolding planFor

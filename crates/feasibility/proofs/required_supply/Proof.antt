@@ -1,3 +1,4 @@
+-- `required-closed`: whole periods and the front of one. The figure is at most 1,000 records a minute, so that it fits (`required-most`).
 use native.Mathlib.Omega.{arith}
 use Rattle.feasibility.proofs.Products.{fits-mul}
 use mathlib.Core.Path.{sym}
@@ -17,22 +18,38 @@ div-result : tie.Need-div-result
 div-result c = let n = numbers _ (c .before .before .pre .0) in omega arith
 
 mul-result : tie.Need-mul-result
-mul-result c = let n = numbers _ (c .before .before .pre .0) in record { fits = fits-mul 64 65535 20160000 tt (omega (arith, div-le-self (c .before .before .args .r) (c .before .before .args .plan .period))) (n .total) }
+mul-result c =
+    let start = c .before .before in
+    let n = numbers _ (start .pre .0) in
+    record { fits = fits-mul 64 65535 20160000 tt (omega (arith, div-le-self (start .args .r) (start .args .plan .period))) (n .total) }
 
 rem-front-held : tie.Need-rem-front-held
 rem-front-held c = let n = numbers _ (c .before .before .pre .0) in omega arith
 
 front-held-requires : tie.Need-front-held-requires
-front-held-requires c κs = let n = numbers _ (c .before .before .pre .0) in (c .before .before .pre .0, c .before .before .pre .1, le-of-lt (mod-lt (c .before .before .args .r) (n .period .0)))
+front-held-requires c κs =
+    let start = c .before .before in
+    let n = numbers _ (start .pre .0) in
+    (start .pre .0, start .pre .1, le-of-lt (mod-lt (start .args .r) (n .period .0)))
 
 add-result : tie.Need-add-result
-add-result c = let v = required-most _ (c .before .before .before .pre .0) (c .before .before .before .pre .1) (c .before .before .before .args .r) in let e = required-closed _ (c .before .before .before .pre .0) (c .before .before .before .pre .1) (c .before .before .before .args .r) in record { fits = omega arith }
+add-result c =
+    let start = c .before .before .before in
+    let most = required-most _ (start .pre .0) (start .pre .1) (start .args .r) in
+    let closed = required-closed _ (start .pre .0) (start .pre .1) (start .args .r) in
+    record { fits = omega arith }
 
 cast-result : tie.Need-cast-result
-cast-result c = let v = required-most _ (c .before .before .before .pre .0) (c .before .before .before .pre .1) (c .before .before .before .args .r) in let e = required-closed _ (c .before .before .before .pre .0) (c .before .before .before .pre .1) (c .before .before .before .args .r) in record { fits = omega arith }
+cast-result c =
+    let start = c .before .before .before in
+    let most = required-most _ (start .pre .0) (start .pre .1) (start .args .r) in
+    let closed = required-closed _ (start .pre .0) (start .pre .1) (start .args .r) in
+    record { fits = omega arith }
 
 returns : tie.Need-returns
-returns c = rw (c .front-held .ensures) (sym (required-closed _ (c .before .before .before .pre .0) (c .before .before .before .pre .1) _))
+returns c =
+    let start = c .before .before .before in
+    rw (c .front-held .ensures) (sym (required-closed _ (start .pre .0) (start .pre .1) _))
 
 pub required-supply-spec : {M : Type 1} → statement M
 required-supply-spec =

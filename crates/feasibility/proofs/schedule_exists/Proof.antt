@@ -1,3 +1,4 @@
+-- By family; each side is one product.
 use Rattle.feasibility.specs.Families.{exists}
 use borrow.Author.Needs.{needs}
 use Rattle.feasibility.proofs.schedule_exists.Statement.{statement}

@@ -1,3 +1,4 @@
+-- 3 and 4 by `spec_number`, 5 where a rate is missing; then what `scheduled_with` gives is the definition's by its contract.
 use mathlib.Core.Path.{sym, _∙_}
 use borrow.Author.Tests.{eq-eqb, ne-eqb}
 use Rattle.feasibility.specs.Families.{ifRates, scheduleFor}
@@ -23,14 +24,28 @@ enum-told c = search needs
 
 returns-2 : tie.Need-returns-2
 unfolding scheduleFor ifRates
-returns-2 c = rw (← c .before .before .before .before .spec-number .ensures, eq-eqb _ 0 (c .before .before .before .if1 .left), ← c .before .before .both-rates .ensures, c .enum-told .given .1)
+returns-2 c =
+    let start = c .before .before .before in
+    rw (← start .before .spec-number .ensures, eq-eqb _ 0 (start .if1 .left), ← c .before .before .both-rates .ensures, c .enum-told .given .1)
 
 scheduled-with-requires : tie.Need-scheduled-with-requires
-scheduled-with-requires c κs = (sym (c .before .before .before .before .before .spec-number .ensures) ∙ c .before .before .before .before .if1 .left, sym (c .before .before .before .both-rates .ensures) ∙ c .before .rates .given .1)
+scheduled-with-requires c κs =
+    let there = c .before in
+    let start = there .before .before .before in
+    (sym (start .before .spec-number .ensures) ∙ start .if1 .left, sym (there .before .before .both-rates .ensures) ∙ there .rates .given .1)
 
 returns-3 : tie.Need-returns-3
 unfolding scheduleFor ifRates
-returns-3 c = rw (c .scheduled-with .ensures, ← c .before .before .before .before .before .before .spec-number .ensures, eq-eqb _ 0 (c .before .before .before .before .before .if1 .left), ← c .before .before .before .before .both-rates .ensures, c .before .before .rates .given .1)
+returns-3 c =
+    let there = c .before .before in
+    let start = there .before .before .before in
+    rw (
+      c .scheduled-with .ensures,
+      ← start .before .spec-number .ensures,
+      eq-eqb _ 0 (start .if1 .left),
+      ← there .before .before .both-rates .ensures,
+      there .rates .given .1,
+    )
 
 pub schedule-for-spec : {M : Type 1} → statement M
 schedule-for-spec =

@@ -1,3 +1,4 @@
+-- By whether the supply rate is there.
 use Rattle.feasibility.specs.Consistency.{whereRate, sizeFitsBudget}
 use borrow.Author.Needs.{needs}
 use Rattle.feasibility.proofs.size_fits_budget.Statement.{statement}

@@ -1,3 +1,4 @@
+-- By family.
 use Rattle.feasibility.specs.Families.{supplyFigure}
 use borrow.Author.Needs.{needs}
 use Rattle.feasibility.proofs.supply_figure.Statement.{statement}

@@ -1,3 +1,5 @@
+-- The refusals in document 01's order: 3 and 4 by `spec_number`, 5 where a rate is missing, 7 with the condition; then what is taken is
+-- judged. Each return rewrites the definition by what the calls before it gave.
 use mathlib.Core.Path.{sym, _∙_}
 use borrow.Author.Tests.{eq-eqb, ne-eqb}
 use Rattle.feasibility.specs.Test.{testConditions, testRates, testOf}
@@ -23,17 +25,29 @@ enum-told c = search needs
 
 returns-2 : tie.Need-returns-2
 unfolding testOf testRates
-returns-2 c = rw (← c .before .before .before .before .spec-number .ensures, eq-eqb _ 0 (c .before .before .before .if1 .left), ← c .before .before .both-rates .ensures, c .enum-told .given .1)
+returns-2 c =
+    let start = c .before .before .before in
+    rw (← start .before .spec-number .ensures, eq-eqb _ 0 (start .if1 .left), ← c .before .before .both-rates .ensures, c .enum-told .given .1)
 
 conditions-of-requires : tie.Need-conditions-of-requires
-conditions-of-requires c κs = sym (c .before .before .before .before .before .spec-number .ensures) ∙ c .before .before .before .before .if1 .left
+conditions-of-requires c κs = let start = c .before .before .before .before in sym (start .before .spec-number .ensures) ∙ start .if1 .left
 
 enum-known-conditions : tie.Need-enum-known-conditions
 enum-known-conditions c = search needs
 
 returns-3 : tie.Need-returns-3
 unfolding testOf testRates testConditions
-returns-3 c = rw (← c .before .before .before .before .before .before .before .before .before .spec-number .ensures, eq-eqb _ 0 (c .before .before .before .before .before .before .before .before .if1 .left), ← c .before .before .before .before .before .before .before .both-rates .ensures, c .before .before .before .before .before .rates .given .1, ← c .before .before .before .conditions-of .ensures, c .before .conditions .given .1)
+returns-3 c =
+    let there = c .before .before .before .before .before in
+    let start = there .before .before .before in
+    rw (
+      ← start .before .spec-number .ensures,
+      eq-eqb _ 0 (start .if1 .left),
+      ← there .before .before .both-rates .ensures,
+      there .rates .given .1,
+      ← c .before .before .before .conditions-of .ensures,
+      c .before .conditions .given .1,
+    )
 
 enum-told-2 : tie.Need-enum-told-2
 enum-told-2 c = search needs
@@ -42,14 +56,30 @@ family-of-requires : tie.Need-family-of-requires
 family-of-requires c κs = search needs
 
 best-schedule-requires : tie.Need-best-schedule-requires
-best-schedule-requires c κs = (sym (c .before .before .before .before .before .before .before .before .before .spec-number .ensures) ∙ c .before .before .before .before .before .before .before .before .if1 .left, sym (c .before .before .before .before .before .before .before .both-rates .ensures) ∙ c .before .before .before .before .before .rates .given .1)
+best-schedule-requires c κs =
+    let there = c .before .before .before .before .before in
+    let start = there .before .before .before in
+    (sym (start .before .spec-number .ensures) ∙ start .if1 .left, sym (there .before .before .both-rates .ensures) ∙ there .rates .given .1)
 
 judge-requires : tie.Need-judge-requires
 judge-requires c κs = search needs
 
 returns-4 : tie.Need-returns-4
 unfolding testOf testRates testConditions
-returns-4 c = rw (c .judge .ensures, c .before .best-schedule .ensures, c .before .before .family-of .ensures, ← c .before .before .before .before .before .before .before .before .before .before .before .spec-number .ensures, eq-eqb _ 0 (c .before .before .before .before .before .before .before .before .before .before .if1 .left), ← c .before .before .before .before .before .before .before .before .before .both-rates .ensures, c .before .before .before .before .before .before .before .rates .given .1, ← c .before .before .before .before .before .conditions-of .ensures, c .before .before .before .enum-told2 .given .1)
+returns-4 c =
+    let there = c .before .before .before .before .before .before .before in
+    let start = there .before .before .before in
+    rw (
+      c .judge .ensures,
+      c .before .best-schedule .ensures,
+      c .before .before .family-of .ensures,
+      ← start .before .spec-number .ensures,
+      eq-eqb _ 0 (start .if1 .left),
+      ← there .before .before .both-rates .ensures,
+      there .rates .given .1,
+      ← c .before .before .before .before .before .conditions-of .ensures,
+      c .before .before .before .enum-told2 .given .1,
+    )
 
 pub test-spec : {M : Type 1} → statement M
 test-spec =

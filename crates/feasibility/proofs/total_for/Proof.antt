@@ -1,3 +1,4 @@
+-- By family.
 use Rattle.feasibility.specs.Families.{totalFor}
 use borrow.Author.Needs.{needs}
 use Rattle.feasibility.proofs.total_for.Statement.{statement}
