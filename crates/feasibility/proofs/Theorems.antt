@@ -7,7 +7,7 @@ use mathlib.Core.Path.{_≡_, refl, sym, _∙_, ap, subst}
 use mathlib.Core.Logic.{_⊎_, inl, inr, ⊎-elim}
 use mathlib.Core.Bool.{Bool, true, false, cond}
 use lib.Dec.{eqb}
-use borrow.Author.Tests.{leb-true, eqb-true, eq-eqb}
+use borrow.Author.Tests.{leb-true, le-leb, eqb-true, eq-eqb}
 use Rattle.spec.specs.declared.Spec.{Spec}
 use Rattle.spec.specs.Limits.{specNumber, limits, order, IsAccepted}
 use Rattle.schedule.specs.Schedules.{stretch}
@@ -28,13 +28,15 @@ use Rattle.feasibility.specs.declared.Scheduled.{Scheduled}
 use Rattle.feasibility.specs.declared.Scheduled.the-variants.{Found, Refused as NoneFound}
 use Rattle.feasibility.specs.declared.Tested.{Tested}
 use Rattle.feasibility.specs.declared.Tested.the-variants.{Passed, Refused, Inconsistent}
-use Rattle.feasibility.specs.Consistency.{conditionsOf, consistencyFrom, consistencyOf}
-use Rattle.feasibility.specs.Families.{bothRates, periodFor, totalFor, planFor, required, supplyFigure, scheduled, ifRates, scheduleFor}
+use Rattle.feasibility.specs.declared.Condition.the-variants.{BoundsFitRates, FewestReportsFitBudget, EnoughReportsForDemand, SupplyCoversDemand}
+use Rattle.schedule.proofs.Sums.{lt-cases}
+use Rattle.feasibility.specs.Consistency.{whereRate, boundsFitRates, fewestReportsFitBudget, enoughReportsForDemand, supplyCoversDemand, conditionsOf, consistencyFrom, consistencyOf}
+use Rattle.feasibility.specs.Families.{bothRates, periodFor, totalFor, planFor, required, supplyFigure, exists, scheduled, ifRates, scheduleFor}
 use Rattle.feasibility.specs.Test.{familyOf, taken, passes, judged, testConditions, testRates, testOf}
-use Rattle.feasibility.specs.Statements.{TestSound, RequiredMost, AvailableLeast, BestOfAll, TestPasses, TestNotPassed, TestNoneExists}
+use Rattle.feasibility.specs.Statements.{TestSound, RequiredMost, AvailableLeast, BestOfAll, TestPasses, TestNotPassed, TestNoneExists, NoneOnlyBelow}
 use Rattle.feasibility.proofs.Figures.{required-fullest, available-least, available-held, held-within, held-beyond}
 use Rattle.feasibility.proofs.Plans.{Known, known, plan-proper, plan-well, plan-sizes, plan-gaps, scheduled-some}
-use Rattle.feasibility.proofs.Taking.{none-there}
+use Rattle.feasibility.proofs.Taking.{firstWith, lastWith, exists-iff, none-there}
 use Rattle.feasibility.proofs.Best.{good-both, Exists, found-exists, TakenOf, taken-best}
 
 -- A schedule for k reports, once the rates are there.
@@ -293,3 +295,37 @@ test-sound s plan v x = pick (bothRates s) refl
         let h = test-passes s q plan v e .0 x in
         let g = found-at (familyOf q) s q (plan .count) plan v e (h .1 .schedule) in
         (g .ok, obeys s q (plan .count) plan v (familyOf q) g (h .2))
+
+-- Condition 5 says that the first number of reports that reaches L is not above the last that fits P.
+fifth-holds : (s : Spec) → conditionsOf s ≡ AllHold → enoughReportsForDemand s ≡ true
+unfolding conditionsOf
+fifth-holds s h = pick (boundsFitRates s) (fewestReportsFitBudget s) (enoughReportsForDemand s) (supplyCoversDemand s) h
+  where
+    pick : (a b c d : Bool)
+        → cond a (cond b (cond c (cond d AllHold (FirstFailing SupplyCoversDemand)) (FirstFailing EnoughReportsForDemand)) (FirstFailing FewestReportsFitBudget)) (FirstFailing BoundsFitRates)
+        ≡ AllHold
+        → c ≡ true
+    pick true true true d x = refl
+    pick true true false d x = absurd (let z : _≡_ {A = ℕ} 0 1 = cc in omega arith)
+    pick true false c d x = absurd (let z : _≡_ {A = ℕ} 0 1 = cc in omega arith)
+    pick false b c d x = absurd (let z : _≡_ {A = ℕ} 0 1 = cc in omega arith)
+
+enough-reports : (s : Spec) (q : Rates) → Known s q → conditionsOf s ≡ AllHold → exists MinimumDemand s q (firstWith MinimumDemand s q) ≡ true
+unfolding enoughReportsForDemand whereRate firstWith lastWith
+enough-reports s q n h =
+    exists-iff s q n MinimumDemand _ .1 (omega arith, leb-true _ _ (rw (n .demand) at (fifth-holds s h)))
+
+pub none-only-below : NoneOnlyBelow
+unfolding familyOf
+none-only-below s q e x = ⊎-elim (λ h. h) (λ h. absurd (never h)) (lt-cases (q .r) (q .p))
+  where
+    never : q .p ≤ q .r → ⊥
+    never h =
+        let none = test-none-exists s q e .0 x in
+        let a = consistent-accepted s (none .0) in
+        let n = known s q a e in
+        let k = firstWith MinimumDemand s q in
+        let some = scheduled-some MinimumDemand s q k (enough-reports s q n (conditions-hold s (none .0))) in
+        let same = sym (schedule-at MinimumDemand s q k a e) ∙ rw (le-leb _ _ h) at (none .1 k) in
+        let z : _≡_ {A = ℕ} 0 1 = cc in
+        omega arith

@@ -1,7 +1,7 @@
 -- What is true of the schedules of document 000 and of the plan that the test passes, for every specification and every number k of
 -- reports, however large. Each is proved in proofs/Theorems.antt. Document 01, "Cycles": "An endless run is a schedule .. The test
 -- passes the plan that it yields". Lemma 6 and Corollary 2 of document 000 are false and not used.
-use Prim.Native.Nat.{ℕ, _≤_}
+use Prim.Native.Nat.{ℕ, _≤_, _<_}
 use mathlib.Core.Path.{_≡_}
 use mathlib.Core.Logic.{_↔_}
 use mathlib.Core.Bool.{true, false}
@@ -69,3 +69,7 @@ abbrev pub TestNoneExists : Type 0
 TestNoneExists =
     (s : Spec) (q : Rates) → bothRates s ≡ Both q
     → (testOf s ≡ Refused 8) ↔ ((consistencyOf s ≡ Consistent) × ((k : ℕ) → scheduleFor (familyOf q) s k ≡ NoneFound 6))
+
+-- It comes only of R below P: by condition 5 a consistent specification has a minimum demand schedule.
+abbrev pub NoneOnlyBelow : Type 0
+NoneOnlyBelow = (s : Spec) (q : Rates) → bothRates s ≡ Both q → testOf s ≡ Refused 8 → q .r < q .p
