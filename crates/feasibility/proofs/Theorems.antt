@@ -1,4 +1,4 @@
--- The theorems of specs/Statements.antt. The test comes down to one equation: of a consistent specification with both rates it judges
+-- The theorems of specs/Statements.antt. The test comes down to one equation: of a consistent specification with both rates it tests-taken
 -- what is taken, and what is taken is the best of all k, which is unique.
 use Prim.Native.Nat.{ℕ, _%_, _-_, _≤_, _<_}
 use native.Mathlib.Omega.{arith}
@@ -32,7 +32,7 @@ use Rattle.feasibility.specs.declared.Condition.the-variants.{BoundsFitR
 use Rattle.schedule.proofs.Sums.{lt-cases}
 use Rattle.feasibility.specs.Consistency.{whereRate, boundsFitRates, fewestReportsFitBudget, enoughReportsForDemand, supplyCoversDemand, conditionsOf, consistencyFrom, consistencyOf}
 use Rattle.feasibility.specs.Families.{bothRates, periodFor, totalFor, planFor, required, supplyFigure, exists, scheduled, ifRates, scheduleFor}
-use Rattle.feasibility.specs.Test.{familyOf, taken, passes, judged, testConditions, testRates, testOf}
+use Rattle.feasibility.specs.Test.{familyOf, taken, passes, testTaken, testConditions, testRates, testOf}
 use Rattle.feasibility.specs.Statements.{TestSound, RequiredMost, AvailableLeast, BestOfAll, TestPasses, TestNotPassed, TestNoneExists, NoneOnlyBelow}
 use Rattle.feasibility.proofs.Figures.{required-fullest, available-least, available-held, held-within, held-beyond}
 use Rattle.feasibility.proofs.Plans.{Known, known, plan-proper, plan-well, plan-sizes, plan-gaps, scheduled-some}
@@ -72,15 +72,15 @@ found-at f s q k plan v e h =
       well = rw (← x .is) (plan-well s q n f k (x .there));
     }
 
-pub required-most : RequiredMost
+pub required-is-most : RequiredMost
 unfolding supplyFigure required
-required-most s q k plan v e h =
+required-is-most s q k plan v e h =
     let x = found-at MinimumDemand s q k plan v e h in
     (x .at .figure, λ a. rw (← x .at .figure) (required-fullest plan (x .ok) (x .well) (q .r) a))
 
-pub available-least-held : AvailableLeast
+pub available-is-least : AvailableLeast
 unfolding supplyFigure
-available-least-held s q k plan v e h =
+available-is-least s q k plan v e h =
     let x = found-at MaximumSupply s q k plan v e h in (
       λ a. rw (← x .at .figure) (available-least plan (x .ok) (x .well) (q .p) a),
       (plan .period - q .p % plan .period, available-held plan (x .ok) (x .well) (q .p) ∙ x .at .figure),
@@ -140,31 +140,31 @@ module _ (s : Spec) (q : Rates) (e : bothRates s ≡ Both q) where
   abbrev f : Family
   f = familyOf q
 
-  -- it judges what is taken, or names a condition, or gives 3 or 4
-  abbrev Judges : Type 0
-  Judges = (consistencyOf s ≡ Consistent) × (testOf s ≡ judged f q (taken f s q))
+  -- it tests-taken what is taken, or names a condition, or gives 3 or 4
+  abbrev TestsTaken : Type 0
+  TestsTaken = (consistencyOf s ≡ Consistent) × (testOf s ≡ testTaken f q (taken f s q))
 
   abbrev Otherwise : Type 0
   Otherwise = ((c : Condition) × (testOf s ≡ Inconsistent c)) ⊎ (testOf s ≡ Refused (specNumber s))
 
-  outcome : Judges ⊎ Otherwise
+  outcome : TestsTaken ⊎ Otherwise
   unfolding testOf testRates testConditions consistencyOf
   outcome = pick (eqb (specNumber s) 0) refl (conditionsOf s) refl
     where
-      pick : (b : Bool) → eqb (specNumber s) 0 ≡ b → (c : Conditions) → conditionsOf s ≡ c → Judges ⊎ Otherwise
+      pick : (b : Bool) → eqb (specNumber s) 0 ≡ b → (c : Conditions) → conditionsOf s ≡ c → TestsTaken ⊎ Otherwise
       pick true h AllHold c = inl (rw (h, c), rw (h, e, c))
       pick true h (FirstFailing x) c = inr (inl (x, rw (h, e, c)))
       pick false h c g = inr (inr (rw h))
 
-  -- a passed plan, 8 and 9 come only of a judgement
-  judges : (t : Tested) → testOf s ≡ t → ((c : Condition) → t ≡ Inconsistent c → ⊥) → (t ≡ Refused (specNumber s) → ⊥) → (consistencyOf s ≡ Consistent) × (judged f q (taken f s q) ≡ t)
-  judges t x not-condition not-number =
+  -- a passed plan, 8 and 9 come only where what is taken is tested
+  tests-taken : (t : Tested) → testOf s ≡ t → ((c : Condition) → t ≡ Inconsistent c → ⊥) → (t ≡ Refused (specNumber s) → ⊥) → (consistencyOf s ≡ Consistent) × (testTaken f q (taken f s q) ≡ t)
+  tests-taken t x not-condition not-number =
       ⊎-elim
       (λ g. (g .0, sym (g .1) ∙ x))
       (λ g. absurd (⊎-elim (λ y. not-condition (y .0) (sym x ∙ y .1)) (λ y. not-number (sym x ∙ y)) g))
       outcome
 
-  consistent : consistencyOf s ≡ Consistent → testOf s ≡ judged f q (taken f s q)
+  consistent : consistencyOf s ≡ Consistent → testOf s ≡ testTaken f q (taken f s q)
   unfolding testOf testRates testConditions
   consistent a = rw (eq-eqb (specNumber s) 0 (consistent-accepted s a), e, conditions-hold s a)
 
@@ -197,8 +197,8 @@ module _ (s : Spec) (q : Rates) (e : bothRates s ≡ Both q) where
     best-taken : Of (taken f s q)
     best-taken = taken-best s q (known s q a e) f
 
-    passed : (plan : Plan) (v : ℕ) (t : Scheduled) → Of t → judged f q t ≡ Passed plan v → BestOfAll f s plan v × (passes f q v ≡ true)
-    unfolding judged
+    passed : (plan : Plan) (v : ℕ) (t : Scheduled) → Of t → testTaken f q t ≡ Passed plan v → BestOfAll f s plan v × (passes f q v ≡ true)
+    unfolding testTaken
     passed plan v (NoneFound m) h x = absurd (let z : _≡_ {A = ℕ} 0 1 = cc in omega arith)
     passed plan v (Found p w) h x = pick (passes f q w) refl x
       where
@@ -209,8 +209,8 @@ module _ (s : Spec) (q : Rates) (e : bothRates s ≡ Both q) where
             (subst (λ (r : Plan). BestOfAll f s r v) i (subst (λ (u : ℕ). BestOfAll f s p u) j (best-of-all p w h)), rw (← j) g)
         pick false g y = absurd (let z : _≡_ {A = ℕ} 0 1 = cc in omega arith)
 
-    not-passed : (t : Scheduled) → Of t → judged f q t ≡ Refused 9 → (plan : Plan) × (v : ℕ) × BestOfAll f s plan v × (passes f q v ≡ false)
-    unfolding judged
+    not-passed : (t : Scheduled) → Of t → testTaken f q t ≡ Refused 9 → (plan : Plan) × (v : ℕ) × BestOfAll f s plan v × (passes f q v ≡ false)
+    unfolding testTaken
     not-passed (NoneFound m) h x = absurd (let z : m ≡ 9 = cc in omega (arith, h .0))
     not-passed (Found p w) h x = pick (passes f q w) refl x
       where
@@ -218,8 +218,8 @@ module _ (s : Spec) (q : Rates) (e : bothRates s ≡ Both q) where
         pick true g y = absurd (let z : _≡_ {A = ℕ} 0 1 = cc in omega arith)
         pick false g y = (p, w, best-of-all p w h, g)
 
-    none-exists : (t : Scheduled) → Of t → judged f q t ≡ Refused 8 → (k : ℕ) → scheduleFor f s k ≡ NoneFound 6
-    unfolding judged
+    none-exists : (t : Scheduled) → Of t → testTaken f q t ≡ Refused 8 → (k : ℕ) → scheduleFor f s k ≡ NoneFound 6
+    unfolding testTaken
     none-exists (NoneFound m) h x k =
         there k ∙ none-there s q (known s q a e) f k (λ g. h .1 k _ _ (scheduled-some f s q k g))
     none-exists (Found p w) h x k = pick (passes f q w) x
@@ -228,8 +228,8 @@ module _ (s : Spec) (q : Rates) (e : bothRates s ≡ Both q) where
         pick true y = absurd (let z : _≡_ {A = ℕ} 0 1 = cc in omega arith)
         pick false y = absurd (let z : _≡_ {A = ℕ} 9 8 = cc in omega arith)
 
-    none-taken : (t : Scheduled) → Of t → ((k : ℕ) → scheduleFor f s k ≡ NoneFound 6) → judged f q t ≡ Refused 8
-    unfolding judged
+    none-taken : (t : Scheduled) → Of t → ((k : ℕ) → scheduleFor f s k ≡ NoneFound 6) → testTaken f q t ≡ Refused 8
+    unfolding testTaken
     none-taken (NoneFound m) h x = ap Refused (h .0)
     none-taken (Found p w) h x =
         absurd (let y = sym (there (p .count)) ∙ x (p .count) in let g = h .0 in let z : _≡_ {A = ℕ} 0 1 = cc in omega arith)
@@ -241,14 +241,14 @@ module _ (s : Spec) (q : Rates) (e : bothRates s ≡ Both q) where
   no-condition : (m : ℕ) (c : Condition) → Refused m ≡ Inconsistent c → ⊥
   no-condition m c x = let z : _≡_ {A = ℕ} 0 1 = cc in omega arith
 
-  refused : (m : ℕ) → 4 < m → testOf s ≡ Refused m → (consistencyOf s ≡ Consistent) × (judged f q (taken f s q) ≡ Refused m)
-  refused m h x = judges (Refused m) x (no-condition m) (above m h)
+  refused : (m : ℕ) → 4 < m → testOf s ≡ Refused m → (consistencyOf s ≡ Consistent) × (testTaken f q (taken f s q) ≡ Refused m)
+  refused m h x = tests-taken (Refused m) x (no-condition m) (above m h)
 
 pub test-passes : TestPasses
-unfolding judged
+unfolding testTaken
 test-passes s q plan v e = (
   λ x.
-      let j = judges s q e (Passed plan v) x (λ c y. let z : _≡_ {A = ℕ} 0 1 = cc in omega arith) (λ y. let z : _≡_ {A = ℕ} 0 1 = cc in omega arith) in
+      let j = tests-taken s q e (Passed plan v) x (λ c y. let z : _≡_ {A = ℕ} 0 1 = cc in omega arith) (λ y. let z : _≡_ {A = ℕ} 0 1 = cc in omega arith) in
       let a = consistent-accepted s (j .0) in
       let r = passed s q e a plan v (taken (familyOf q) s q) (best-taken s q e a) (j .1) in
       (j .0, r .0, r .1),
@@ -258,7 +258,7 @@ test-passes s q plan v e = (
 )
 
 pub test-not-passed : TestNotPassed
-unfolding judged
+unfolding testTaken
 test-not-passed s q e = (
   λ x.
       let j = refused s q e 9 (omega arith) x in

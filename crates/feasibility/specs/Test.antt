@@ -56,13 +56,13 @@ passes MinimumDemand q v = leb v (q .b)
 passes MaximumSupply q v = leb (q .l) v
 
 -- "9 the schedule taken does not pass"
-unfoldable pub judged : Family → Rates → Scheduled → Tested
-judged f q (NoneFound n) = Refused n
-judged f q (Found plan v) = cond (passes f q v) (Passed plan v) (Refused 9)
+unfoldable pub testTaken : Family → Rates → Scheduled → Tested
+testTaken f q (NoneFound n) = Refused n
+testTaken f q (Found plan v) = cond (passes f q v) (Passed plan v) (Refused 9)
 
 -- "7 inconsistent, and this refusal carries the condition that failed first", then 8 and 9
 unfoldable pub testConditions : Conditions → Spec → Rates → Tested
-testConditions AllHold s q = judged (familyOf q) q (taken (familyOf q) s q)
+testConditions AllHold s q = testTaken (familyOf q) q (taken (familyOf q) s q)
 testConditions (FirstFailing c) s q = Inconsistent c
 
 -- "5 a rate is absent", then 7 to 9

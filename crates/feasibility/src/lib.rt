@@ -17,7 +17,7 @@ ghost use Rattle.plan.specs.Plans.{proper, run};
 ghost use Rattle.feasibility.specs.Consistency.{ceil, sizeFitsBudget, gapFitsDemand, demandFitsDuration, boundsFitRates, fewestReportsFitBudget, enoughReportsForDemand, supplyCoversDemand, conditionsOf, consistencyFrom, consistencyOf};
 ghost use Rattle.feasibility.specs.declared.BothRates.the-variants.{Both};
 ghost use Rattle.feasibility.specs.Families.{bothRates, exists, periodFor, totalFor, planFor, required, available, supplyFigure, scheduled, scheduleFor, minimumDemandFor, maximumSupplyFor};
-ghost use Rattle.feasibility.specs.Test.{familyOf, isBetter, betterOf, taken, passes, judged, testOf};
+ghost use Rattle.feasibility.specs.Test.{familyOf, isBetter, betterOf, taken, passes, testTaken, testOf};
 ghost use Rattle.feasibility.specs.Answers.{conditionNumber, consistencyAnswer, scheduledAnswer, testedAnswer};
 
 // Conditions 3 to 6 of consistency, by what each says.
@@ -511,8 +511,8 @@ fn figure_passes(f: Family, q: Rates, v: u32) -> bool
     }
 }
 
-fn judge(f: Family, q: Rates, best: Scheduled) -> Tested
-    ensures { λ r. ⌜ r ≡ judged f q best ⌝ }
+fn test_taken(f: Family, q: Rates, best: Scheduled) -> Tested
+    ensures { λ r. ⌜ r ≡ testTaken f q best ⌝ }
 {
     match best {
         Scheduled::Refused(n) => Tested::Refused(n),
@@ -541,5 +541,5 @@ pub fn test(spec: Spec) -> Tested
         return Tested::Inconsistent(c);
     }
     let f = family_of(q);
-    judge(f, q, best_schedule(f, spec, q))
+    test_taken(f, q, best_schedule(f, spec, q))
 }

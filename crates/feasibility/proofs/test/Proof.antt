@@ -1,5 +1,5 @@
 -- The refusals in document 01's order: 3 and 4 by `spec_number`, 5 where a rate is missing, 7 with the condition; then what is taken is
--- judged. Each return rewrites the definition by what the calls before it gave.
+-- tested. Each return rewrites the definition by what the calls before it gave.
 use mathlib.Core.Path.{sym, _∙_}
 use borrow.Author.Tests.{eq-eqb, ne-eqb}
 use Rattle.feasibility.specs.Test.{testConditions, testRates, testOf}
@@ -61,8 +61,8 @@ best-schedule-requires c κs =
     let start = there .before .before .before in
     (sym (start .before .spec-number .ensures) ∙ start .if1 .left, sym (there .before .before .both-rates .ensures) ∙ there .rates .given .1)
 
-judge-requires : tie.Need-judge-requires
-judge-requires c κs = search needs
+test-taken-requires : tie.Need-test-taken-requires
+test-taken-requires c κs = search needs
 
 returns-4 : tie.Need-returns-4
 unfolding testOf testRates testConditions
@@ -70,7 +70,7 @@ returns-4 c =
     let there = c .before .before .before .before .before .before .before in
     let start = there .before .before .before in
     rw (
-      c .judge .ensures,
+      c .test-taken .ensures,
       c .before .best-schedule .ensures,
       c .before .before .family-of .ensures,
       ← start .before .spec-number .ensures,
@@ -97,5 +97,5 @@ test-spec =
     enum-told-2
     family-of-requires
     best-schedule-requires
-    judge-requires
+    test-taken-requires
     returns-4)

@@ -1,8 +1,8 @@
 -- By whether a schedule was taken, then by whether its figure passes.
-use Rattle.feasibility.specs.Test.{judged}
+use Rattle.feasibility.specs.Test.{testTaken}
 use borrow.Author.Needs.{needs}
-use Rattle.feasibility.proofs.judge.Statement.{statement}
-use Rattle.feasibility.proofs.judge.Tie as tie
+use Rattle.feasibility.proofs.test_taken.Statement.{statement}
+use Rattle.feasibility.proofs.test_taken.Tie as tie
 
 enum-known-best : tie.Need-enum-known-best
 enum-known-best c = search needs
@@ -14,18 +14,18 @@ figure-passes-requires : tie.Need-figure-passes-requires
 figure-passes-requires c κs = search needs
 
 returns : tie.Need-returns
-unfolding judged
+unfolding testTaken
 returns c = rw (c .before .best .given .1)
 
 returns-2 : tie.Need-returns-2
-unfolding judged
+unfolding testTaken
 returns-2 c = rw (c .before .before .before .best2 .given .1, ← c .before .figure-passes .ensures, c .if1 .taken)
 
 returns-3 : tie.Need-returns-3
-unfolding judged
+unfolding testTaken
 returns-3 c = rw (c .before .before .before .best2 .given .1, ← c .before .figure-passes .ensures, c .if1 .left)
 
-pub judge-spec : {M : Type 1} → statement M
-judge-spec =
+pub test-taken-spec : {M : Type 1} → statement M
+test-taken-spec =
     tie.close
     (tie.spec enum-known-best enum-known-best-2 figure-passes-requires returns returns-2 returns-3)
