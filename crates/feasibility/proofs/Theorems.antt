@@ -140,7 +140,7 @@ module _ (s : Spec) (q : Rates) (e : bothRates s ≡ Both q) where
   abbrev f : Family
   f = familyOf q
 
-  -- it tests-taken what is taken, or names a condition, or gives 3 or 4
+  -- it tests what is taken, or names a condition, or gives 3 or 4
   abbrev TestsTaken : Type 0
   TestsTaken = (consistencyOf s ≡ Consistent) × (testOf s ≡ testTaken f q (taken f s q))
 

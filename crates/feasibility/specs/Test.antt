@@ -46,7 +46,7 @@ unfoldable pub lastCount : Family → Rates → ℕ
 lastCount MinimumDemand q = q .p
 lastCount MaximumSupply q = q .b
 
--- "over all k": `taken-best` of proofs/Taking.antt says that it is the best of every k without upper end
+-- "over all k": `taken-best` of proofs/Best.antt says that it is the best of every k without upper end
 unfoldable pub taken : Family → Spec → Rates → Scheduled
 taken f s q = takenUpTo f (scheduled f s q) (lastCount f q)
 
