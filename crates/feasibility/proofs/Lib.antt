@@ -6,4 +6,6 @@ pub mod Figures
 pub mod Plans
 pub mod Taking
 pub mod Best
+pub mod Obeying
+pub mod Outcomes
 pub mod Theorems
