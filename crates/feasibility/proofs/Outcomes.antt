@@ -6,7 +6,7 @@ use mathlib.Core.Path.{_≡_, refl, sym, _∙_, ap, subst}
 use mathlib.Core.Logic.{_⊎_, inl, inr, ⊎-elim}
 use mathlib.Core.Bool.{Bool, true, false, cond}
 use lib.Dec.{eqb}
-use borrow.Author.Tests.{eqb-true, eq-eqb}
+use borrow.Author.Tests.{eqb-true, eq-eqb, leb-true}
 use Rattle.spec.specs.declared.Spec.{Spec}
 use Rattle.spec.specs.Limits.{specNumber, limits, order, IsAccepted}
 use Rattle.plan.specs.declared.Plan.{Plan}
@@ -21,14 +21,16 @@ use Rattle.feasibility.specs.declared.Scheduled.{Scheduled}
 use Rattle.feasibility.specs.declared.Scheduled.the-variants.{Found, Refused as NoneFound}
 use Rattle.feasibility.specs.declared.Tested.{Tested}
 use Rattle.feasibility.specs.declared.Tested.the-variants.{Passed, Refused, Inconsistent}
-use Rattle.feasibility.specs.Consistency.{conditionsOf, consistencyFrom, consistencyOf}
-use Rattle.feasibility.specs.Families.{bothRates, scheduled, scheduleFor}
+use Rattle.feasibility.specs.Consistency.{conditionsOf, consistencyFrom, consistencyOf, whereRate, boundsFitRates, fewestReportsFitBudget, enoughReportsForDemand, supplyCoversDemand}
+use Rattle.feasibility.specs.Families.{bothRates, scheduled, scheduleFor, exists}
 use Rattle.feasibility.specs.Test.{familyOf, taken, passes, testTaken, testConditions, testRates, testOf}
 use Rattle.feasibility.specs.Statements.{BestOfAll}
-use Rattle.feasibility.proofs.Plans.{known, scheduled-some}
-use Rattle.feasibility.proofs.Taking.{none-there}
+use Rattle.feasibility.proofs.Plans.{known, scheduled-some, Known}
+use Rattle.feasibility.proofs.Taking.{none-there, firstWith, lastWith, exists-iff}
 use Rattle.feasibility.proofs.Best.{good-both, TakenOf, taken-best}
 use Rattle.feasibility.proofs.Obeying.{schedule-at}
+use Rattle.feasibility.specs.declared.Family.the-variants.{MinimumDemand}
+use Rattle.feasibility.specs.declared.Condition.the-variants.{BoundsFitRates, FewestReportsFitBudget, EnoughReportsForDemand, SupplyCoversDemand}
 
 -- What the test does, by consistency.
 number-few : (s : Spec) → specNumber s ≤ 4
@@ -163,3 +165,22 @@ module _ (s : Spec) (q : Rates) (e : bothRates s ≡ Both q) where
 
   pub refused : (m : ℕ) → 4 < m → testOf s ≡ Refused m → (consistencyOf s ≡ Consistent) × (testTaken f q (taken f s q) ≡ Refused m)
   refused m h x = tests-taken (Refused m) x (no-condition m) (above m h)
+
+-- Condition 5 says that the first number of reports that reaches L is not above the last that fits P.
+fifth-holds : (s : Spec) → conditionsOf s ≡ AllHold → enoughReportsForDemand s ≡ true
+unfolding conditionsOf
+fifth-holds s h = pick (boundsFitRates s) (fewestReportsFitBudget s) (enoughReportsForDemand s) (supplyCoversDemand s) h
+  where
+    pick : (a b c d : Bool)
+        → cond a (cond b (cond c (cond d AllHold (FirstFailing SupplyCoversDemand)) (FirstFailing EnoughReportsForDemand)) (FirstFailing FewestReportsFitBudget)) (FirstFailing BoundsFitRates)
+        ≡ AllHold
+        → c ≡ true
+    pick true true true d x = refl
+    pick true true false d x = absurd (let z : _≡_ {A = ℕ} 0 1 = cc in omega arith)
+    pick true false c d x = absurd (let z : _≡_ {A = ℕ} 0 1 = cc in omega arith)
+    pick false b c d x = absurd (let z : _≡_ {A = ℕ} 0 1 = cc in omega arith)
+
+pub enough-reports : (s : Spec) (q : Rates) → Known s q → conditionsOf s ≡ AllHold → exists MinimumDemand s q (firstWith MinimumDemand s q) ≡ true
+unfolding enoughReportsForDemand whereRate firstWith lastWith
+enough-reports s q n h =
+    exists-iff s q n MinimumDemand _ .1 (omega arith, leb-true _ _ (rw (n .demand) at (fifth-holds s h)))

@@ -5,28 +5,23 @@ use mathlib.Core.Path.{_≡_, refl, sym, _∙_}
 use mathlib.Core.Logic.{⊎-elim}
 use mathlib.Core.Bool.{Bool, true, false, cond}
 use lib.Dec.{eqb}
-use borrow.Author.Tests.{leb-true, le-leb}
-use Rattle.spec.specs.declared.Spec.{Spec}
+use borrow.Author.Tests.{le-leb}
 use Rattle.spec.specs.Limits.{specNumber}
 use Rattle.schedule.specs.Rules.{Obeys}
 use Rattle.plan.specs.Plans.{proper, run}
-use Rattle.feasibility.specs.declared.Conditions.the-variants.{AllHold, FirstFailing}
 use Rattle.feasibility.specs.declared.Family.the-variants.{MinimumDemand, MaximumSupply}
-use Rattle.feasibility.specs.declared.Rates.{Rates}
 use Rattle.feasibility.specs.declared.BothRates.{BothRates}
 use Rattle.feasibility.specs.declared.BothRates.the-variants.{Both, Missing}
 use Rattle.feasibility.specs.declared.Tested.the-variants.{Passed, Refused}
-use Rattle.feasibility.specs.declared.Condition.the-variants.{BoundsFitRates, FewestReportsFitBudget, EnoughReportsForDemand, SupplyCoversDemand}
 use Rattle.schedule.proofs.Sums.{lt-cases}
-use Rattle.feasibility.specs.Consistency.{whereRate, boundsFitRates, fewestReportsFitBudget, enoughReportsForDemand, supplyCoversDemand, conditionsOf}
-use Rattle.feasibility.specs.Families.{bothRates, required, supplyFigure, exists}
+use Rattle.feasibility.specs.Families.{bothRates, required, supplyFigure}
 use Rattle.feasibility.specs.Test.{familyOf, taken, testTaken, testRates, testOf}
 use Rattle.feasibility.specs.Statements.{TestSound, RequiredMost, AvailableLeast, TestPasses, TestNotPassed, TestNoneExists, NoneOnlyBelow}
 use Rattle.feasibility.proofs.Figures.{required-fullest, available-least, available-held}
-use Rattle.feasibility.proofs.Plans.{Known, known, scheduled-some}
-use Rattle.feasibility.proofs.Taking.{firstWith, lastWith, exists-iff}
+use Rattle.feasibility.proofs.Plans.{known, scheduled-some}
+use Rattle.feasibility.proofs.Taking.{firstWith}
 use Rattle.feasibility.proofs.Obeying.{schedule-at, found-at, obeys}
-use Rattle.feasibility.proofs.Outcomes.{consistent-accepted, conditions-hold, tests-taken, consistent, best-taken, unique, passed, not-passed, none-exists, none-taken, refused}
+use Rattle.feasibility.proofs.Outcomes.{enough-reports, consistent-accepted, conditions-hold, tests-taken, consistent, best-taken, unique, passed, not-passed, none-exists, none-taken, refused}
 
 pub required-is-most : RequiredMost
 unfolding supplyFigure required
@@ -93,25 +88,6 @@ test-sound s plan v x = pick (bothRates s) refl
         let h = test-passes s q plan v e .0 x in
         let g = found-at (familyOf q) s q (plan .count) plan v e (h .1 .schedule) in
         (g .ok, obeys s q (plan .count) plan v (familyOf q) g (h .2))
-
--- Condition 5 says that the first number of reports that reaches L is not above the last that fits P.
-fifth-holds : (s : Spec) → conditionsOf s ≡ AllHold → enoughReportsForDemand s ≡ true
-unfolding conditionsOf
-fifth-holds s h = pick (boundsFitRates s) (fewestReportsFitBudget s) (enoughReportsForDemand s) (supplyCoversDemand s) h
-  where
-    pick : (a b c d : Bool)
-        → cond a (cond b (cond c (cond d AllHold (FirstFailing SupplyCoversDemand)) (FirstFailing EnoughReportsForDemand)) (FirstFailing FewestReportsFitBudget)) (FirstFailing BoundsFitRates)
-        ≡ AllHold
-        → c ≡ true
-    pick true true true d x = refl
-    pick true true false d x = absurd (let z : _≡_ {A = ℕ} 0 1 = cc in omega arith)
-    pick true false c d x = absurd (let z : _≡_ {A = ℕ} 0 1 = cc in omega arith)
-    pick false b c d x = absurd (let z : _≡_ {A = ℕ} 0 1 = cc in omega arith)
-
-enough-reports : (s : Spec) (q : Rates) → Known s q → conditionsOf s ≡ AllHold → exists MinimumDemand s q (firstWith MinimumDemand s q) ≡ true
-unfolding enoughReportsForDemand whereRate firstWith lastWith
-enough-reports s q n h =
-    exists-iff s q n MinimumDemand _ .1 (omega arith, leb-true _ _ (rw (n .demand) at (fifth-holds s h)))
 
 pub none-only-below : NoneOnlyBelow
 unfolding familyOf
