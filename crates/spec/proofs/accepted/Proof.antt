@@ -1,3 +1,4 @@
+-- The code asks for the number first, as `judged` does.
 use borrow.Author.Needs.{needs}
 use borrow.Author.Tests.{eq-eqb, ne-eqb}
 use Rattle.spec.specs.File.{judged}

@@ -1,3 +1,4 @@
+-- By the bit: where it stands, the two numbers are those of the definition, and they lie in the file.
 use borrow.Author.Needs.{needs}
 use borrow.Author.Tests.{eq-eqb, ne-eqb}
 use Rattle.spec.proofs.duration_at.Statement.{statement}

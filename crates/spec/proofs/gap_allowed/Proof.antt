@@ -1,3 +1,4 @@
+-- The test is that of the definition.
 use borrow.Author.Needs.{needs}
 use Rattle.spec.specs.Limits.{gapAllowed}
 use Rattle.spec.proofs.gap_allowed.Statement.{statement}

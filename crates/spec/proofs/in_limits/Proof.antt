@@ -1,3 +1,4 @@
+-- Each call gives one part of the definition, in its order.
 use borrow.Author.Needs.{needs}
 use Rattle.spec.specs.Limits.{limits}
 use Rattle.spec.proofs.in_limits.Statement.{statement}

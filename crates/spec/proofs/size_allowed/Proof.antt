@@ -1,3 +1,4 @@
+-- The test is that of the definition.
 use borrow.Author.Needs.{needs}
 use Rattle.spec.specs.Limits.{sizeAllowed}
 use Rattle.spec.proofs.size_allowed.Statement.{statement}

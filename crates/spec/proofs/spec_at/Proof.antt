@@ -1,3 +1,4 @@
+-- Each field is read at the place that the definition names; the file is as long as the map calls for, so each place lies in it.
 use borrow.Author.Needs.{needs}
 use Rattle.spec.proofs.spec_at.Statement.{statement}
 use Rattle.spec.proofs.spec_at.Tie as tie
