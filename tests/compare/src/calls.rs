@@ -41,7 +41,8 @@ fn verdict_case(random: &mut Random, library: &mut Library) -> Verdict {
     let spec_file = if random.once_in(30) { generate::spec_file(random) } else { spec::write(&spec) };
     let spec_file = if random.once_in(4) { generate::seldom_damaged(random, spec_file) } else { spec_file };
     let cycle_file = match file::write(&pairs, usize::MAX) {
-        Ok(file) if random.once_in(5) => generate::damaged(random, file),
+        Ok(file) if random.once_in(10) => generate::damaged(random, file),
+        Ok(file) if random.once_in(10) => stray_map(random, file),
         Ok(file) => file,
         Err(_) => generate::cycle_file(random),
     };
@@ -304,34 +305,37 @@ fn read_case(random: &mut Random, library: &mut Library) -> Verdict {
     same(wanted.answer, got, (wanted, wanted_pairs), || format!("{} places {places}", hex(&file)))
 }
 
-/// Changes what is likely a map byte, or puts in a field that should be left out.
-fn stray_map(random: &mut Random, file: Vec<u8>) -> Vec<u8> {
-    let count = usize::from(file[0]) * 256 + usize::from(file[1]);
-    let at_pair = random.below(count as u64 + 1) as usize;
-    let mut at = 2;
-    let mut fields = vec![];
-    for _ in 0..at_pair {
-        let Some(&map) = file.get(at) else { break };
-        fields = vec![at + 1];
-        at += 1 + 2 * usize::from(map & 1) + usize::from(map & 2);
+/// Spoils one pair of a sound file: its map byte, a field that should be left out, or a cut just there.
+fn stray_map(random: &mut Random, mut file: Vec<u8>) -> Vec<u8> {
+    let (mut at, mut before) = (2, None);
+    let pairs = u64::from(file[0]) * 256 + u64::from(file[1]);
+    for _ in 0..random.below(pairs + 1) {
+        before = Some(at);
+        at += 1 + 2 * usize::from(file[at] & 1) + usize::from(file[at] & 2);
     }
-    let mut file = file;
     if at >= file.len() {
         return file;
     }
-    match (random.below(4), fields.first()) {
+    match (random.below(5), before) {
         (0, _) => file[at] = random.next() as u8,
         (1, _) => file[at] ^= 1 << random.below(8),
-        (2, _) => file[at] &= 3 & random.next() as u8,
-        (_, Some(&before)) if file[before - 1] == 3 && file[at] & 1 == 0 => {
-            // The gap of the pair before, once more.
-            let gap = [file[before], file[before + 1]];
-            file[at] |= 1;
-            file.splice(at + 1..at + 1, gap);
-        }
-        _ => file.truncate(at + random.below(3) as usize),
+        (2, _) => file.truncate(at + random.below(5) as usize),
+        (_, Some(before)) if file[before] == 3 => repeat_field(random, &mut file, before, at),
+        _ => file[at] &= 3 & random.next() as u8,
     }
     file
+}
+
+/// Puts a field of the full pair `before` once more into the next pair, at `at`, where it should be left out.
+fn repeat_field(random: &mut Random, file: &mut Vec<u8>, before: usize, at: usize) {
+    let map = file[at];
+    let (field, to) = if random.once_in(2) { (1, at + 1) } else { (2, at + 1 + 2 * usize::from(map & 1)) };
+    if map & field == 0 {
+        let from = before + 2 * usize::from(field) - 1;
+        let repeated = [file[from], file[from + 1]];
+        file[at] |= field;
+        file.splice(to..to, repeated);
+    }
 }
 
 fn write_case(random: &mut Random, library: &mut Library) -> Verdict {
