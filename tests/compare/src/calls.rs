@@ -15,6 +15,7 @@ pub fn all(runner: &mut Runner) {
     runner.random("minimum demand", cases, &[0, 1, 2, 3, 4, 5, 6], min_demand_case);
     runner.random("maximum supply", cases, &[0, 1, 2, 3, 4, 5, 6], max_supply_case);
     runner.random("test", cases, &[0, 1, 2, 3, 4, 5, 7, 8, 9], test_case);
+    runner.random("test at the limits", cases / 16_000, &[], test_at_the_limits_case);
     runner.random("even plan, every gap counted", cases, &[0, 1, 2, 3, 4, 10], even_case);
     runner.random("even plan, size lists searched", cases / 4, &[0, 10], even_search_case);
     runner.random("report", cases, &[0, 11], report_case);
@@ -160,8 +161,34 @@ fn test_case(random: &mut Random, library: &mut Library) -> Verdict {
         }
         _ => spec::write(&spec_for_test(random)),
     };
+    test_of(&file, random, library)
+}
+
+/// Rates, ranges and numbers of reports all near their limits. The reference looks at up to 200 million reports here.
+fn test_at_the_limits_case(random: &mut Random, library: &mut Library) -> Verdict {
+    let longest = |random: &mut Random| random.pick(&[20_160, 20_159, 20_000, 10_081, 10_080]);
+    let smallest = random.pick(&[1, 1, 2]);
+    let shortest = random.pick(&[1, 1, 2, 3]);
+    let mut spec = Spec {
+        size: (smallest, random.pick(&[smallest, 2, 7, 999, 1_000])),
+        gap: (shortest, random.pick(&[3, 4, 9, 10_080, 20_160])),
+        supply: Some((random.between(10_000, 20_000), longest(random))),
+        demand: Some((random.between(1, 20_000), longest(random))),
+        duration: None,
+    };
+    if random.once_in(3) {
+        // The other branch, with fewer k: by report it is slower.
+        spec.size.0 = 10;
+        spec.size.1 = spec.size.1.max(10);
+        spec.supply = spec.supply.map(|(b, r)| (b, r / 2));
+    }
+    make_consistent(random, &mut spec, FULL);
+    test_of(&spec::write(&spec), random, library)
+}
+
+fn test_of(file: &[u8], random: &mut Random, library: &mut Library) -> Verdict {
     let before: [u32; 5] = random.places();
-    let wanted = match spec::read(&file).map(|spec| feasibility::test(&spec, 2_000)) {
+    let wanted = match spec::read(file).map(|spec| feasibility::test(&spec, 2_000)) {
         Err(answer) | Ok(Err(Failure::Refused(answer))) => Outcome { answer, places: before },
         Ok(Err(Failure::Inconsistent(condition))) => {
             Outcome { answer: 7, places: [condition, before[1], before[2], before[3], before[4]] }
@@ -170,7 +197,7 @@ fn test_case(random: &mut Random, library: &mut Library) -> Verdict {
             Outcome { answer: 0, places: [before[0], plan.k as u32, plan.period as u32, plan.total as u32, supply as u32] }
         }
     };
-    same(wanted.answer, library.test(&file, before), wanted, || hex(&file))
+    same(wanted.answer, library.test(file, before), wanted, || hex(file))
 }
 
 fn even_outcome(spec: Result<Spec, Refusal>, works: impl Fn(&Spec, u64) -> bool, before: [u32; 3]) -> Outcome<3> {
@@ -185,13 +212,14 @@ fn even_case(random: &mut Random, library: &mut Library) -> Verdict {
     same(wanted.answer, library.even_plan(&file, before), wanted, || hex(&file))
 }
 
-/// A specification small enough that every list of sizes can be tried: at most 3 sizes, at most 7 reports in a window.
+/// A specification small enough that every list of sizes can be tried: at most 3 sizes (seldom 4), and few reports in a window.
 fn spec_for_search(random: &mut Random) -> Spec {
+    let (sizes, reports) = if random.once_in(50) { (4, 8) } else { (3, 7) };
     loop {
         let mut spec = generate::near_spec(random, TINY);
-        spec.size.1 = spec.size.1.min(spec.size.0 + 2);
+        spec.size.1 = spec.size.1.min(spec.size.0 + sizes - 1);
         let window = spec.supply.map_or(0, |s| s.1).max(spec.demand.map_or(0, |d| d.1));
-        if window / spec.gap.0 <= 7 {
+        if window / spec.gap.0 <= reports {
             return spec;
         }
     }

@@ -162,11 +162,8 @@ pub fn cycle_in_range(random: &mut Random, spec: &Spec, count: usize) -> Vec<Pai
 pub fn spec_and_cycle(random: &mut Random) -> (Spec, Vec<Pair>) {
     let scale = scale(random);
     let mut spec = near_spec(random, scale);
-    let mut pairs = if random.once_in(200) {
-        // The most reports that a window can hold: one pair, gap 1, and the longest window.
-        spec.gap.0 = 1;
-        spec.supply = Some((20_000, 20_160));
-        vec![Pair { gap: 1, size: spec.size.0 as u16 }]
+    let mut pairs = if random.once_in(100) {
+        vec![most_reports(random, &mut spec)]
     } else {
         let count = count(random);
         cycle_in_range(random, &spec, count)
@@ -178,6 +175,16 @@ pub fn spec_and_cycle(random: &mut Random) -> (Spec, Vec<Pair>) {
         spoil(random, &spec, &mut pairs);
     }
     (spec, pairs)
+}
+
+/// The most reports that a window can hold: one pair, gap 1, and windows about as long as they can be.
+fn most_reports(random: &mut Random, spec: &mut Spec) -> Pair {
+    let window = |random: &mut Random| random.pick(&[20_160, 20_001, 20_000, 19_999]);
+    spec.gap.0 = 1;
+    spec.size.0 = if random.once_in(4) { spec.size.0 } else { 1 };
+    spec.supply = (!random.once_in(4)).then(|| (20_000, window(random)));
+    spec.demand = (!random.once_in(4)).then(|| (20_000, window(random)));
+    Pair { gap: 1, size: spec.size.0 as u16 }
 }
 
 /// Moves B and L to what the cycle holds at its fullest and thinnest, or one off.
