@@ -15,7 +15,7 @@ pub fn all(runner: &mut Runner) {
     runner.random("minimum demand", cases, &[0, 1, 2, 3, 4, 5, 6], min_demand_case);
     runner.random("maximum supply", cases, &[0, 1, 2, 3, 4, 5, 6], max_supply_case);
     runner.random("test", cases, &[0, 1, 2, 3, 4, 5, 7, 8, 9], test_case);
-    runner.random("test at the limits", cases / 16_000, &[], test_at_the_limits_case);
+    runner.random("test at the limits", (cases / 16_000).max(1), &[], test_at_the_limits_case);
     runner.random("even plan, every gap counted", cases, &[0, 1, 2, 3, 4, 10], even_case);
     runner.random("even plan, size lists searched", cases / 4, &[0, 10], even_search_case);
     runner.random("report", cases, &[0, 11], report_case);
@@ -108,11 +108,8 @@ fn steps_of_test(spec: &Spec) -> u64 {
     if feasibility::failing_condition(spec).is_some() {
         return 0;
     }
-    let (first, last) = if r >= p {
-        (l.div_ceil(spec.size.1), p / spec.gap.0)
-    } else {
-        (r.div_ceil(spec.gap.1), b / spec.size.0)
-    };
+    let (first, last) =
+        if r >= p { (l.div_ceil(spec.size.1), p / spec.gap.0) } else { (r.div_ceil(spec.gap.1), b / spec.size.0) };
     let k = (first + last) / 2 + 1;
     let reports = if r >= p { r * k / (k * spec.gap.1).min(p) } else { 20 * (k + p * k / (k * spec.gap.0).max(r)) };
     (last + 1).saturating_sub(first) * (reports + 1)

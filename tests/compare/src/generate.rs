@@ -138,7 +138,11 @@ pub fn damaged(random: &mut Random, mut file: Vec<u8>) -> Vec<u8> {
 /// How many pairs: few, mostly; up to the limit, now and then.
 fn count(random: &mut Random) -> usize {
     let most = random.pick(&[1, 2, 3, 4, 8, 8, 20, 20, 60, 512]);
-    if random.once_in(400) { 512 } else { random.between(1, most) as usize }
+    if random.once_in(400) {
+        512
+    } else {
+        random.between(1, most) as usize
+    }
 }
 
 /// A cycle within the ranges, in runs of equal fields so that its file leaves some out.

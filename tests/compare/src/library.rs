@@ -65,17 +65,15 @@ impl Library {
 
     pub fn min_demand(&mut self, spec: &[u8], k: u32, before: [u32; 3]) -> Outcome<3> {
         let [mut period, mut total, mut required] = before;
-        let answer = self.with_spec(spec, |at, len| unsafe {
-            maxeltu_min_demand(at, len, k, &mut period, &mut total, &mut required)
-        });
+        let answer =
+            self.with_spec(spec, |at, len| unsafe { maxeltu_min_demand(at, len, k, &mut period, &mut total, &mut required) });
         Outcome { answer, places: [period, total, required] }
     }
 
     pub fn max_supply(&mut self, spec: &[u8], k: u32, before: [u32; 3]) -> Outcome<3> {
         let [mut period, mut total, mut available] = before;
-        let answer = self.with_spec(spec, |at, len| unsafe {
-            maxeltu_max_supply(at, len, k, &mut period, &mut total, &mut available)
-        });
+        let answer =
+            self.with_spec(spec, |at, len| unsafe { maxeltu_max_supply(at, len, k, &mut period, &mut total, &mut available) });
         Outcome { answer, places: [period, total, available] }
     }
 
@@ -89,9 +87,7 @@ impl Library {
 
     pub fn even_plan(&mut self, spec: &[u8], before: [u32; 3]) -> Outcome<3> {
         let [mut k, mut period, mut total] = before;
-        let answer = self.with_spec(spec, |at, len| unsafe {
-            maxeltu_even_plan(at, len, &mut k, &mut period, &mut total)
-        });
+        let answer = self.with_spec(spec, |at, len| unsafe { maxeltu_even_plan(at, len, &mut k, &mut period, &mut total) });
         Outcome { answer, places: [k, period, total] }
     }
 

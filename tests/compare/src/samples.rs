@@ -28,7 +28,13 @@ impl Checks {
     }
 
     /// A call's outcome is this refusal, with its places untouched, or these numbers.
-    fn outcome<const N: usize>(&mut self, text: String, got: Outcome<N>, reference: Result<[u64; N], u32>, wanted: Result<[u64; N], u32>) {
+    fn outcome<const N: usize>(
+        &mut self,
+        text: String,
+        got: Outcome<N>,
+        reference: Result<[u64; N], u32>,
+        wanted: Result<[u64; N], u32>,
+    ) {
         let outcome = match wanted {
             Ok(numbers) => Outcome { answer: 0, places: numbers.map(|n| n as u32) },
             Err(answer) => Outcome { answer, places: [HELD; N] },
@@ -44,7 +50,8 @@ impl Checks {
 
     fn max_supply(&mut self, name: &str, spec: &Spec, k: u32, wanted: Result<[u64; 3], u32>) {
         let got = self.library.max_supply(&spec::write(spec), k, [HELD; 3]);
-        let reference = feasibility::max_supply(spec, k.into(), u64::MAX).map(|(plan, available)| [plan.period, plan.total, available]);
+        let reference =
+            feasibility::max_supply(spec, k.into(), u64::MAX).map(|(plan, available)| [plan.period, plan.total, available]);
         self.outcome(format!("{name} maximum supply, k {k}"), got, reference, wanted);
     }
 
@@ -145,7 +152,11 @@ fn sample_b(checks: &mut Checks) {
     checks.file("b15.spec", &spec::write(&b15));
     checks.test("B with 15", &b15, Err(9));
     checks.even("B with 15", &b15, Ok([5, 4, 10]));
-    checks.reports("B with 15, even", Plan { kind: Kind::Even, k: 4, period: 20, total: 10 }, &[(0, 2), (5, 3), (10, 2), (15, 3)]);
+    checks.reports(
+        "B with 15, even",
+        Plan { kind: Kind::Even, k: 4, period: 20, total: 10 },
+        &[(0, 2), (5, 3), (10, 2), (15, 3)],
+    );
     checks.cycle("G, 3 2", &b15, &[(5, 3), (5, 2)], 0);
     checks.cycle("G, 3 3 2 2", &b15, &[(5, 3), (5, 3), (5, 2), (5, 2)], 15);
     checks.cycle("G, 2 2 2 3", &b15, &[(5, 2), (5, 2), (5, 2), (5, 3)], 16);

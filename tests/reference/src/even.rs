@@ -101,10 +101,7 @@ impl Search<'_> {
     fn settled_stretches(&self, i: u64, last: &[u64]) -> bool {
         let first_kept = i + 1 - last.len() as u64;
         let held = |a: u64, n: u64| -> u64 {
-            (first_kept..=i)
-                .filter(|j| (a..a + n).contains(&(j * self.gap)))
-                .map(|j| last[(j - first_kept) as usize])
-                .sum()
+            (first_kept..=i).filter(|j| (a..a + n).contains(&(j * self.gap))).map(|j| last[(j - first_kept) as usize]).sum()
         };
         let ends = i * self.gap + 1..=(i + 1) * self.gap;
         let starts = |n: u64| ends.clone().filter(move |&end| end >= n).map(move |end| end - n);

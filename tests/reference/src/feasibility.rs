@@ -2,6 +2,7 @@
 
 use crate::schedule::{least_and_most, Schedule};
 use crate::{Kind, Plan, Refusal, Spec};
+use std::cmp::Reverse;
 
 /// The first condition that fails. "A part that names an absent value is not applied."
 pub fn failing_condition(spec: &Spec) -> Option<u32> {
@@ -14,14 +15,7 @@ pub fn failing_condition(spec: &Spec) -> Option<u32> {
     let tmin = spec.duration.map(|(tmin, _)| tmin);
     // Each part as Some(holds), or None where a value is absent.
     let conditions: [(u32, Vec<Option<bool>>); 4] = [
-        (
-            3,
-            vec![
-                b.map(|b| dmax <= b),
-                p.map(|p| smax <= p),
-                p.and_then(|p| tmin.map(|tmin| p <= tmin)),
-            ],
-        ),
+        (3, vec![b.map(|b| dmax <= b), p.map(|p| smax <= p), p.and_then(|p| tmin.map(|tmin| p <= tmin))]),
         (4, vec![b.and_then(|b| r.map(|r| dmin * (r / smax) <= b))]),
         (5, vec![l.and_then(|l| p.map(|p| l.div_ceil(dmax) <= p / smin))]),
         (6, vec![spec.supply.and_then(|(b, r)| spec.demand.map(|(l, p)| b * p >= l * r))]),
@@ -79,19 +73,17 @@ pub fn test(spec: &Spec, laid_out: u64) -> Result<(Plan, u64), Failure> {
         return Err(Failure::Inconsistent(condition));
     }
     let every_k = 0..=20_161;
-    let (taken, passes): (Option<(Plan, u64)>, fn(u64, u64, u64) -> bool) = if r >= p {
-        // `min_by_key` takes the first of equals, so the smaller k.
-        let least = every_k.filter_map(|k| min_demand(spec, k).ok()).min_by_key(|&(_, required)| required);
-        (least, |required, b, _| required <= b)
+    // `min_by_key` takes the first of equals, so the smaller k.
+    let taken = if r >= p {
+        every_k.filter_map(|k| min_demand(spec, k).ok()).min_by_key(|&(_, required)| required)
     } else {
-        let greatest = every_k
-            .filter_map(|k| max_supply(spec, k, laid_out).ok())
-            .min_by_key(|&(_, available)| std::cmp::Reverse(available));
-        (greatest, |available, _, l| available >= l)
+        every_k.filter_map(|k| max_supply(spec, k, laid_out).ok()).min_by_key(|&(_, available)| Reverse(available))
     };
-    match taken {
-        None => Err(Failure::Refused(8)),
-        Some((_, supply)) if !passes(supply, b, l) => Err(Failure::Refused(9)),
-        Some(plan) => Ok(plan),
+    let Some((plan, supply)) = taken else { return Err(Failure::Refused(8)) };
+    let passes = if r >= p { supply <= b } else { supply >= l };
+    if passes {
+        Ok((plan, supply))
+    } else {
+        Err(Failure::Refused(9))
     }
 }

@@ -20,7 +20,11 @@ impl Rest<'_> {
 
     /// The next field, if its bit stands.
     fn field(&mut self, stands: bool) -> Result<Option<u16>, Refusal> {
-        if stands { self.number().map(Some) } else { Ok(None) }
+        if stands {
+            self.number().map(Some)
+        } else {
+            Ok(None)
+        }
     }
 }
 
@@ -39,7 +43,11 @@ pub fn read(file: &[u8], places: usize) -> Result<Vec<Pair>, Refusal> {
         let pair = read_pair(&mut rest, pairs.last())?;
         pairs.push(pair);
     }
-    if rest.0.is_empty() { Ok(pairs) } else { Err(18) }
+    if rest.0.is_empty() {
+        Ok(pairs)
+    } else {
+        Err(18)
+    }
 }
 
 fn read_pair(rest: &mut Rest, before: Option<&Pair>) -> Result<Pair, Refusal> {
@@ -73,5 +81,9 @@ pub fn write(pairs: &[Pair], room: usize) -> Result<Vec<u8>, Refusal> {
             file.extend(number.to_be_bytes());
         }
     }
-    if room < file.len() { Err(20) } else { Ok(file) }
+    if room < file.len() {
+        Err(20)
+    } else {
+        Ok(file)
+    }
 }
