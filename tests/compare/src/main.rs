@@ -1,13 +1,14 @@
 //! Compares the static library with the reference, call by call. One line a group; the last says how many passed.
 //!
 //! MAXELTU_SEED and MAXELTU_RUNS in the environment change the seed (1) and the cases of each call (200,000).
-//! An argument runs only the groups of that part: samples, reference or calls.
+//! `compare` alone runs all groups of the library; `compare evenplan PROGRAM` those of the program.
 
 mod calls;
 mod fence;
 mod generate;
 mod group;
 mod library;
+mod program;
 mod random;
 mod samples;
 
@@ -23,17 +24,16 @@ fn number_from_environment(name: &str, default: u64) -> u64 {
 fn main() {
     let seed = number_from_environment("MAXELTU_SEED", DEFAULT_SEED);
     let cases = number_from_environment("MAXELTU_RUNS", 200_000);
-    let part = std::env::args().nth(1);
-    let asked = |name: &str| part.as_deref().map_or(true, |part| part == name);
     let mut runner = Runner { seed, cases, passed: 0, failed: 0 };
-    if asked("samples") {
-        samples::all(&mut runner);
-    }
-    if asked("reference") {
-        calls::reference_itself(&mut runner);
-    }
-    if asked("calls") {
-        calls::all(&mut runner);
+    let arguments: Vec<String> = std::env::args().skip(1).collect();
+    match arguments.iter().map(String::as_str).collect::<Vec<_>>()[..] {
+        [] => {
+            samples::all(&mut runner);
+            calls::reference_itself(&mut runner);
+            calls::all(&mut runner);
+        }
+        ["evenplan", program] => program::all(&mut runner, program.as_ref()),
+        _ => panic!("usage: compare [evenplan PROGRAM]"),
     }
     println!("{} passed, {} failed", runner.passed, runner.failed);
     std::process::exit(i32::from(runner.failed > 0));
