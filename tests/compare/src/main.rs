@@ -4,6 +4,7 @@
 //! `compare` alone runs all groups of the library; `compare evenplan PROGRAM` those of the program.
 
 mod calls;
+mod exhaustive;
 mod fence;
 mod generate;
 mod group;
@@ -12,7 +13,7 @@ mod program;
 mod random;
 mod samples;
 
-use group::{Runner, DEFAULT_SEED};
+use group::Runner;
 
 fn number_from_environment(name: &str, default: u64) -> u64 {
     match std::env::var(name) {
@@ -22,7 +23,7 @@ fn number_from_environment(name: &str, default: u64) -> u64 {
 }
 
 fn main() {
-    let seed = number_from_environment("MAXELTU_SEED", DEFAULT_SEED);
+    let seed = number_from_environment("MAXELTU_SEED", 1);
     let cases = number_from_environment("MAXELTU_RUNS", 200_000);
     let mut runner = Runner { seed, cases, passed: 0, failed: 0 };
     let arguments: Vec<String> = std::env::args().skip(1).collect();
@@ -30,6 +31,7 @@ fn main() {
         [] => {
             samples::all(&mut runner);
             calls::reference_itself(&mut runner);
+            exhaustive::all(&mut runner);
             calls::all(&mut runner);
         }
         ["evenplan", program] => program::all(&mut runner, program.as_ref()),
