@@ -22,7 +22,7 @@ pub fn all(runner: &mut Runner) {
     runner.random("check cycle", cases, &[0, 1, 2, 3, 4, 12, 13, 14, 15, 16], check_case);
     runner.random("read cycle", cases, &[0, 12, 17, 18, 19, 20], read_case);
     runner.random("write cycle", cases, &[0, 12, 20], write_case);
-    runner.random("plans obey the rules", cases / 10, &[0, 1], obeying_case);
+    runner.random("plans obey the rules", cases / 2, &[0, 1], obeying_case);
 }
 
 fn hex(bytes: &[u8]) -> String {
