@@ -385,7 +385,8 @@ fn write_case(random: &mut Random, library: &mut Library) -> Verdict {
     same(wanted.answer, got, (wanted, wanted_bytes), || format!("{pairs:?} room {room}"))
 }
 
-/// The plans that the library yields run by the four rules: the test's (answer 0) and the even plan (answer 1).
+/// The plans that the library yields run by the four rules. It counts as 0 where the test passes one, 1 where only an even plan
+/// exists, 2 where neither.
 fn obeying_case(random: &mut Random, library: &mut Library) -> Verdict {
     let scale = random.pick(&[TINY, SMALL, SMALL, MID]);
     let mut spec = generate::near_spec_with_rates(random, scale);
@@ -403,7 +404,11 @@ fn obeying_case(random: &mut Random, library: &mut Library) -> Verdict {
     if even.answer == 0 && !obeys(&spec, &Plan { kind: Kind::Even, k, period, total }) {
         return Err(format!("the even plan breaks a rule: {}", hex(&file)));
     }
-    Ok(if tested.answer == 0 { 0 } else { u32::from(even.answer == 0) + 2 * u32::from(even.answer != 0) })
+    Ok(match (tested.answer, even.answer) {
+        (0, _) => 0,
+        (_, 0) => 1,
+        _ => 2,
+    })
 }
 
 /// Tests of the reference itself: its literal way and its way for large numbers say the same.
