@@ -3,19 +3,15 @@
 -- later. So it is before minute x exactly when i is below two quotients rounded up, and below the smaller of them.
 use Prim.Native.Nat.{ℕ, _+_, _-_, _*_, _/_, _%_, _≤_, _<_, min}
 use native.Mathlib.Omega.{arith}
-use native.Mathlib.Nat.{mul-add, mul-one, one-mul, zero-mul, zero-add, sub-zero, mul-comm, le-mul-of-pos-right, add-mod-right, le-div-iff-mul-le}
-use mathlib.Core.Path.{_≡_, refl, sym, _∙_}
+use native.Mathlib.Nat.{mod-lt, div-eq-of-lt, mod-eq-of-lt, div-add-mod, mul-add, mul-one, one-mul, zero-mul, zero-add, sub-zero, mul-comm, le-mul-of-pos-right, add-mod-right, le-div-iff-mul-le}
+use mathlib.Core.Path.{_≡_, sym, _∙_}
 use mathlib.Core.Logic.{_↔_, ⊎-elim}
-use mathlib.Core.Bool.{cond}
-use lib.Dec.{leb, ltb}
-use borrow.Author.Tests.{lt-ltb, le-ltb, le-leb, lt-leb}
 use Rattle.schedule.specs.Schedules.{Schedule, sum, minute, stretch}
 use Rattle.schedule.proofs.Sums.{lt-cases, sum-block}
 use Rattle.schedule.proofs.Stretches.{stretch-block}
 use Rattle.schedule.proofs.Before.{minute-mono, minute-least}
 use Rattle.plan.specs.Plans.{wellSize, wellGap}
-use Rattle.plan.proofs.Periods.{sum-at}
-use Rattle.plan.proofs.WellFormed.{wellRun, gap-total, gap-range}
+use Rattle.plan.proofs.WellFormed.{wellRun, size-total, size-sum, gap-total, gap-sum, gap-range}
 use Rattle.feasibility.specs.Consistency.{ceil}
 use Rattle.feasibility.proofs.Ceilings.{lt-ceil-iff}
 
@@ -30,25 +26,20 @@ recordsOf k δ n = n * (δ / k) + min n (δ % k)
 module _ (k : ℕ) (pos : 0 < k) where
   -- the larger sizes come first
   records-first : (δ n : ℕ) → n ≤ k → sum (wellSize k δ) n ≡ recordsOf k δ n
-  unfolding recordsOf wellSize
+  unfolding recordsOf
   records-first δ n h =
-      simp (zero-mul, zero-add) at
-      (sum-at k (δ / k) (λ v. cond (ltb v (δ % k)) 1 0) (λ v. min v (δ % k)) (wellSize k δ) pos (omega arith) more (λ i. refl) 0 n h)
-    where
-      more : (v : ℕ) → v < k → min (v + 1) (δ % k) ≡ min v (δ % k) + cond (ltb v (δ % k)) 1 0
-      more v h =
-          ⊎-elim (λ q. rw (lt-ltb v (δ % k) q) (omega arith)) (λ q. rw (le-ltb v (δ % k) q) (omega arith)) (lt-cases v (δ % k))
+      ⊎-elim
+      (λ q. simp (div-eq-of-lt {n = n} {m = k} q, mod-eq-of-lt {n = n} {m = k} q, zero-mul, zero-add) at (size-sum k pos δ n))
+      (λ q. let e : n ≡ k = omega arith in rw e (omega (arith, size-total k pos δ, div-add-mod δ k, mod-lt δ pos)))
+      (lt-cases n k)
 
   -- the larger gaps come last
   minute-first : (π n : ℕ) → n ≤ k → sum (wellGap k π) n ≡ n * (π / k) + (n - (k - π % k))
-  unfolding wellGap
   minute-first π n h =
-      simp (zero-mul, zero-add) at
-      (sum-at k (π / k) (λ v. cond (leb (k - π % k) v) 1 0) (λ v. v - (k - π % k)) (wellGap k π) pos (omega arith) more (λ i. refl) 0 n h)
-    where
-      more : (v : ℕ) → v < k → v + 1 - (k - π % k) ≡ v - (k - π % k) + cond (leb (k - π % k) v) 1 0
-      more v h =
-          ⊎-elim (λ q. rw (lt-leb (k - π % k) v q) (omega arith)) (λ q. rw (le-leb (k - π % k) v q) (omega arith)) (lt-cases v (k - π % k))
+      ⊎-elim
+      (λ q. simp (div-eq-of-lt {n = n} {m = k} q, mod-eq-of-lt {n = n} {m = k} q, zero-mul, zero-add) at (gap-sum k pos π n))
+      (λ q. let e : n ≡ k = omega arith in rw e (omega (arith, gap-total k pos π, div-add-mod π k, mod-lt π pos)))
+      (lt-cases n k)
 
   module _ (π δ : ℕ) (long : k ≤ π) where
     abbrev s : Schedule
