@@ -128,7 +128,8 @@ fn larger(a: u64, b: u64) -> u64
 // ⌈a/b⌉
 fn ceil_div(a: u64, b: u64) -> u64
     requires { ⌜ (1 ≤ b) × (a + b ≤ 4294967296) ⌝ }
-    ensures { λ r. ⌜ r ≡ ceil a b ⌝ }
+    ensures exact { λ r. ⌜ r ≡ ceil a b ⌝ }
+    ensures small { λ r. ⌜ r ≤ a + b ⌝ }
 {
     (a + (b - 1)) / b
 }

@@ -27,7 +27,7 @@ mul-result : tie.Need-mul-result
 mul-result c =
     let start = c .before .before in
     let n = numbers _ (start .pre .0) in
-    record { fits = fits-mul 64 65536 20160000 tt (omega (arith, div-le-self (start .args .p) (start .args .plan .period))) (n .total) }
+    record { fits = fits-mul 64 131072 20160000 tt (omega (arith, div-le-self (start .args .p) (start .args .plan .period))) (n .total) }
 
 rem-front-held : tie.Need-rem-front-held
 rem-front-held c = let n = numbers _ (c .before .before .pre .0) in omega arith

@@ -3,7 +3,6 @@ use native.Mathlib.Omega.{arith}
 use Rattle.feasibility.proofs.Plans.{known}
 use native.Mathlib.Nat.{div-le-self}
 use Rattle.spec.proofs.Facts.{facts}
-use Rattle.feasibility.proofs.Ceilings.{ceil-most}
 use Rattle.feasibility.proofs.Taking.{firstWith, lastWith, exists-iff}
 use Rattle.feasibility.specs.declared.Family.the-variants.{MinimumDemand, MaximumSupply}
 use borrow.Author.Needs.{needs}
@@ -23,9 +22,7 @@ ceil-div-requires : tie.Need-ceil-div-requires
 ceil-div-requires c κs = let t = facts _ (c .before .before .before .before .pre .0) in omega arith
 
 cast-t8 : tie.Need-cast-t8
-cast-t8 c =
-    let start = c .before .before .before .before .before in
-    record { fits = omega (arith, ceil-most (start .args .q .l) (start .args .s .dmax)) }
+cast-t8 c = record { fits = omega arith }
 
 cast-t9 : tie.Need-cast-t9
 cast-t9 c = search needs
@@ -49,9 +46,7 @@ ceil-div-requires-2 : tie.Need-ceil-div-requires-2
 ceil-div-requires-2 c κs = let t = facts _ (c .before .before .before .before .pre .0) in omega arith
 
 cast-t15 : tie.Need-cast-t15
-cast-t15 c =
-    let start = c .before .before .before .before .before in
-    record { fits = omega (arith, ceil-most (start .args .q .r) (start .args .s .smax)) }
+cast-t15 c = record { fits = omega arith }
 
 cast-t16 : tie.Need-cast-t16
 cast-t16 c = search needs
@@ -67,7 +62,7 @@ unfolding firstWith lastWith
 returns c =
     let start = c .before .before .before .before .before .before .before in
     let n = known _ _ (start .pre .0) (start .pre .1) in
-    rw (c .before .before .before .before .before .enum-told .given .1, c .before .before .ceil-div .ensures)
+    rw (c .before .before .before .before .before .enum-told .given .1, c .before .before .ceil-div .ensures .0)
     (λ k. exists-iff _ _ n MinimumDemand k, omega (arith, div-le-self (start .args .q .p) (start .args .s .smin)))
 
 returns-2 : tie.Need-returns-2
@@ -75,7 +70,7 @@ unfolding firstWith lastWith
 returns-2 c =
     let start = c .before .before .before .before .before .before .before in
     let n = known _ _ (start .pre .0) (start .pre .1) in
-    rw (c .before .before .before .before .before .enum-told2 .given .1, c .before .before .ceil-div2 .ensures)
+    rw (c .before .before .before .before .before .enum-told2 .given .1, c .before .before .ceil-div2 .ensures .0)
     (λ k. exists-iff _ _ n MaximumSupply k, omega (arith, div-le-self (start .args .q .b) (start .args .s .dmin)))
 
 pub counts-of-spec : {M : Type 1} → statement M

@@ -36,7 +36,7 @@ returns c = rw (c .enum-told .given .1)
 
 returns-2 : tie.Need-returns-2
 unfolding enoughReportsForDemand whereRate
-returns-2 c = rw (c .before .before .before .before .demand .given .1, c .before .ceil-div .ensures)
+returns-2 c = rw (c .before .before .before .before .demand .given .1, c .before .ceil-div .ensures .0)
 
 pub enough-reports-for-demand-spec : {M : Type 1} → statement M
 enough-reports-for-demand-spec =

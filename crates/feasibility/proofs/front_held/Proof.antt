@@ -3,11 +3,10 @@
 use native.Mathlib.Omega.{arith}
 use Rattle.feasibility.proofs.Products.{fits-mul}
 use mathlib.Core.Path.{sym}
-use Prim.Native.Nat.{_/_, _≤_}
+use Prim.Native.Nat.{_≤_}
 use native.Mathlib.Nat.{mul-le-mul}
 use Rattle.feasibility.proofs.Figures.{numbers, front-held}
 use Rattle.feasibility.proofs.Fronts.{recordsOf, reportsBefore}
-use Rattle.feasibility.proofs.Ceilings.{ceil-most}
 use borrow.Author.Needs.{needs}
 use Rattle.feasibility.proofs.front_held.Statement.{statement}
 use Rattle.feasibility.proofs.front_held.Tie as tie
@@ -34,7 +33,7 @@ ceil-div-requires : tie.Need-ceil-div-requires
 ceil-div-requires c κs = let n = numbers _ (c .before .before .before .pre .0) in omega arith
 
 add-ceil-div : tie.Need-add-ceil-div
-add-ceil-div c = search needs
+add-ceil-div c = let n = numbers _ (c .before .before .before .before .pre .0) in record { fits = omega arith }
 
 add-ceil-div-2 : tie.Need-add-ceil-div-2
 add-ceil-div-2 c = let n = numbers _ (c .before .before .before .before .pre .0) in record { fits = omega arith }
@@ -49,11 +48,7 @@ div-result : tie.Need-div-result
 div-result c = let n = numbers _ (c .before .before .before .before .before .before .pre .0) in omega arith
 
 mul-result : tie.Need-mul-result
-mul-result c =
-    let start = c .before .before .before .before .before .before in
-    let n = numbers _ (start .pre .0) in
-    let few = ceil-most (start .args .x) (start .args .plan .period / start .args .plan .count) in
-    record { fits = fits-mul 64 812851200 20160000 tt (omega arith) (n .size) }
+mul-result c = let n = numbers _ (c .before .before .before .before .before .before .pre .0) in record { fits = fits-mul 64 812851200 20160000 tt (omega arith) (n .size) }
 
 rem-smaller : tie.Need-rem-smaller
 rem-smaller c = let n = numbers _ (c .before .before .before .before .before .before .pre .0) in omega arith
@@ -63,9 +58,7 @@ smaller-requires-2 c κs = search needs
 
 add-result : tie.Need-add-result
 add-result c =
-    let start = c .before .before .before .before .before .before .before in
-    let n = numbers _ (start .pre .0) in
-    let few = ceil-most (start .args .x) (start .args .plan .period / start .args .plan .count) in
+    let n = numbers _ (c .before .before .before .before .before .before .before .pre .0) in
     let r : c .before .smaller .result ≤ 812851200 = omega arith in
     record { fits = omega (arith, mul-le-mul {n₂ = 812851200} {m₂ = 20160000} r (n .size)) }
 
@@ -73,7 +66,7 @@ returns : tie.Need-returns
 unfolding recordsOf reportsBefore
 returns c =
     let start = c .before .before .before .before .before .before .before in
-    rw (c .smaller2 .ensures, c .before .smaller .ensures, c .before .before .ceil-div2 .ensures, c .before .before .before .ceil-div .ensures)
+    rw (c .smaller2 .ensures, c .before .smaller .ensures, c .before .before .ceil-div2 .ensures .0, c .before .before .before .ceil-div .ensures .0)
     (sym (front-held _ (start .pre .0) (start .pre .1) _ (start .pre .2)))
 
 pub front-held-spec : {M : Type 1} → statement M
