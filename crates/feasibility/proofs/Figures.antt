@@ -18,7 +18,7 @@ use Rattle.plan.proofs.WellFormed.{wellRun, size-total, size-range, period-tota
 use Rattle.feasibility.specs.Families.{required, least, available}
 use Rattle.feasibility.proofs.Fronts.{reportsBefore, recordsOf, front, no-gap-zero, size-again, gap-again, period-end}
 
--- the least of f 0, .., f n is at most each of them, and is one of them
+-- the least of f 0, .., f n is at most each of them, and at least whatever is at most all
 least-le : (f : ℕ → ℕ) (n i : ℕ) → i ≤ n → least f n ≤ f i
 unfolding least
 least-le f zero i h = let z : i ≡ 0 = omega arith in rw z (omega arith)
