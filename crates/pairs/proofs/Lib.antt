@@ -1,0 +1,3 @@
+pub mod FlatLists
+pub mod LocalArray
+pub mod Unpacked
