@@ -6,9 +6,12 @@ use native.Mathlib.Nat.{le-mul-of-pos-right, mul-le-mul-right, le-trans, mul-mod
 use mathlib.Core.Path.{_≡_, refl, sym, _∙_, subst}
 use mathlib.Core.Logic.{_↔_, ⊎-elim}
 use mathlib.Core.Bool.{Bool, true, false, cond, _&&_, and-eq-true-iff}
+use mathlib.Core.List.{List}
 use lib.Dec.{eqb}
 use borrow.Author.Tests.{eqb-true, eqb-false, eq-eqb}
 use Rattle.spec.specs.declared.Spec.{Spec}
+use Rattle.spec.specs.declared.SpecRead.{SpecRead}
+use Rattle.spec.specs.declared.SpecRead.the-variants.{Accepted, Refused as NotRead}
 use Rattle.spec.specs.declared.Rate.{Rate}
 use Rattle.spec.specs.declared.Rate.the-variants.{Absent, Present}
 use Rattle.spec.specs.Limits.{specNumber, IsAccepted, rateLimits, gapAllowed, gapTop}
@@ -17,9 +20,9 @@ use Rattle.schedule.specs.Rules.{Obeys}
 use Rattle.schedule.proofs.Sums.{lt-cases}
 use Rattle.plan.specs.declared.Plan.{Plan}
 use Rattle.plan.specs.Plans.{proper, run, kindRun}
-use Rattle.plan.proofs.Proper.{Bounds, proper-kind}
+use Rattle.plan.proofs.Proper.{ProperBounds, proper-kind}
 use Rattle.even.specs.declared.EvenPlan.the-variants.{Found, Refused}
-use Rattle.even.specs.Even.{evenGap, evenPlan, planOr10, evenPlanAt, fits, countAt, totalOf}
+use Rattle.even.specs.Even.{evenGap, evenPlan, planOr10, evenPlanAt, evenOfRead, evenOf, fits, countAt, totalOf}
 use Rattle.even.specs.Statements.{evenly, EvenPlanObeys, EvenPlanLongest, EvenPlanRefused}
 use Rattle.even.proofs.Search.{Largest, largest-right}
 use Rattle.even.proofs.EvenFits.{Holds, fits-holds, fits-obeys, obeys-fits}
@@ -68,7 +71,7 @@ count-most Absent g e = omega arith
 count-most (Present l p) g e = let k = simp (and-eq-true-iff, leb-iff) at e in omega (arith, div-le-self p g)
 
 module _ (s : Spec) (g : ℕ) (ok : IsAccepted s) (allowed : gapAllowed s g ≡ true) (e : fits s g ≡ true) where
-  bounds : Bounds (evenPlanAt s g)
+  bounds : ProperBounds (evenPlanAt s g)
   unfolding evenPlanAt
   bounds =
       let k = facts s ok in
@@ -77,8 +80,8 @@ module _ (s : Spec) (g : ℕ) (ok : IsAccepted s) (allowed : gapAllowed s g ≡ 
       let z = fits-holds s g ok pos e in
       let m = countAt (s .demand) g in
       record {
-        one = z .some;
-        most = count-most (s .demand) g (k .demand);
+        some = z .some;
+        few = count-most (s .demand) g (k .demand);
         long = le-mul-of-pos-right m pos;
         short = rw mul-comm (mul-le-mul-right m high);
         full = le-trans (le-mul-of-pos-right m (k .size-low)) (z .low);
@@ -123,3 +126,12 @@ even-plan-refused s ok = (
       (λ h. sym (plan-none s {n = 0} (sym ok) {g = 0} refl (omega arith) refl))
       (lt-cases 0 (evenGap s)),
 )
+
+-- and so of a specification file
+found-proper : (x : SpecRead) (p : Plan) → evenOfRead x ≡ Found p → proper p ≡ true
+unfolding evenOfRead
+found-proper (Accepted s) p e = even-plan-obeys s p e .0
+found-proper (NotRead n) p e = absurd (let z : _≡_ {A = ℕ} 0 1 = cc in omega arith)
+
+pub even-of-proper : (b : List ℕ) (p : Plan) → evenOf b ≡ Found p → proper p ≡ true
+even-of-proper b p e = found-proper _ p e

@@ -1,37 +1,47 @@
 // Program `evenplan`: reads a specification file from standard input and prints its even plan, or the number of the refusal
-// (document 01, "Samples"). Reading a specification, the plan and its reports are the libraries'; here is what is read and written.
+// (document 01, "Samples"). Reading a specification, the plan and its reports are the libraries' work; here are the lines of text, and
+// what is read and written.
 use even::EvenPlan;
 use libc::STDIN_FILENO;
 use libc::STDOUT_FILENO;
 use plan::Plan;
 use plan::Reported;
-ghost use Prim.Native.Nat.{_≤_};
+ghost use Prim.Native.Nat.{_+_, _≤_};
+ghost use mathlib.Core.Path.{_≡_};
+ghost use mathlib.Core.List.{[], _∷_};
+ghost use lib.ListN.{length};
+ghost use Rattle.evenplan.specs.Text.{decimal, planLine, reportLine, refusalLine, Room, Grown, Holds};
 
-// A line of text as it grows. The longest line has 37 bytes: gap, cycle and total of the largest plan.
+// A line of text as it grows. No line has more than 80 bytes, though each of its numbers had 20 digits.
 struct Line {
-    bytes: [u8; 64],
+    bytes: [u8; 80],
     len: usize,
 }
 
 impl Line {
-    fn new() -> Line {
+    fn new() -> Line
+        ensures { λ r. ⌜ (r .len ≡ 0) × (Room r 80) ⌝ }
+    {
         Line {
-            bytes: [0u8; 64],
+            bytes: [0u8; 80],
             len: 0,
         }
     }
 
-    // The line with one byte more, or unchanged where it is full.
-    fn byte(mut self, b: u8) -> Line {
+    fn byte(mut self, b: u8) -> Line
+        requires { ⌜ Room self 1 ⌝ }
+        ensures { λ r. ⌜ Grown self (b ∷ []) r ⌝ }
+    {
         let at = self.len;
-        if at < 64 {
-            self.bytes[at] = b;
-            self.len = at + 1;
-        }
+        self.bytes[at] = b;
+        self.len = at + 1;
         self
     }
 
-    fn text(self, t: &[u8]) -> Line {
+    fn text(self, t: &[u8]) -> Line
+        requires { ⌜ Room self (length (now t)) ⌝ }
+        ensures { λ r. ⌜ Grown self (now (t .entry)) r ⌝ }
+    {
         let mut line = self;
         let mut i = 0;
         while i < t.len() {
@@ -41,64 +51,78 @@ impl Line {
         line
     }
 
-    fn number(self, n: u64) -> Line {
+    fn number(self, n: u64) -> Line
+        requires { ⌜ Room self 20 ⌝ }
+        ensures { λ r. ⌜ (Grown self (decimal n) r) × (r .len ≤ self .len + 20) ⌝ }
+    {
         let mut digits = [0u8; 20];
         let k = io::decimal(n, &mut digits);
         self.text(&digits[..k])
     }
 
-    fn print(self) -> bool {
-        let line = self.byte(b'\n');
-        let n = line.len;
-        let bytes = line.bytes;
-        if n <= 64 {
-            io::write_all(STDOUT_FILENO, &bytes[..n])
-        } else {
-            false
-        }
+    fn print(self) -> bool
+        requires { ⌜ Room self 0 ⌝ }
+    {
+        let n = self.len;
+        let bytes = self.bytes;
+        io::write_all(STDOUT_FILENO, &bytes[..n])
     }
 }
 
-// Number, minute and size of report i.
-fn print_report(p: Plan, i: u32) -> bool {
-    let found = plan::report(p, i);
-    let Reported::At { minute, size } = found else {
-        return false;
-    };
+fn plan_line(gap: u32, count: u32, total: u32) -> Line
+    ensures { λ r. ⌜ Holds r (planLine gap count total) ⌝ }
+{
+    Line::new()
+        .text(b"gap ")
+        .number(gap as u64)
+        .text(b" cycle ")
+        .number(count as u64)
+        .text(b" total ")
+        .number(total as u64)
+        .byte(b'\n')
+}
+
+fn report_line(i: u32, minute: u64, size: u32) -> Line
+    ensures { λ r. ⌜ Holds r (reportLine i minute size) ⌝ }
+{
     Line::new()
         .number(i as u64)
         .byte(b' ')
         .number(minute)
         .byte(b' ')
         .number(size as u64)
-        .print()
+        .byte(b'\n')
 }
 
-// Gap, count and total, then the reports of one period, until a line can not be written.
+fn refusal_line(n: u32) -> Line
+    ensures { λ r. ⌜ Holds r (refusalLine n) ⌝ }
+{
+    Line::new().text(b"refused ").number(n as u64).byte(b'\n')
+}
+
+// The line of report i; answers whether it was written.
+fn print_report(p: Plan, i: u32) -> bool {
+    let found = plan::report(p, i);
+    let Reported::At { minute, size } = found else {
+        return false;
+    };
+    report_line(i, minute, size).print()
+}
+
+// The plan's line, then those of the reports of one period, as long as they can be written.
 fn print_plan(p: Plan)
     requires { ⌜ 1 ≤ p .count ⌝ }
 {
     let k = p.count;
-    let head = Line::new()
-        .text(b"gap ")
-        .number((p.period / k) as u64)
-        .text(b" cycle ")
-        .number(k as u64)
-        .text(b" total ")
-        .number(p.total as u64);
-    let mut goes_on = head.print();
     let mut i = 0;
-    while goes_on & (i < k) {
-        goes_on = print_report(p, i);
-        i += 1;
+    if plan_line(p.period / k, k, p.total).print() {
+        while i < k && print_report(p, i) {
+            i += 1;
+        }
     }
 }
 
-fn print_refusal(number: u32) {
-    Line::new().text(b"refused ").number(number as u64).print();
-}
-
-// Reads a little of what is left of the input, and answers whether there may be more.
+// Reads some of what is left of the input, and answers whether there may be more.
 fn skip_some() -> bool {
     let mut rest = io::buffer();
     libc::read(STDIN_FILENO, &mut rest) > 0
@@ -112,7 +136,7 @@ fn skip_rest() {
     }
 }
 
-// The longest specification file has 21 bytes. One more tells a file that is too long from every other, whatever follows.
+// The longest specification file has 21 bytes. One byte more shows that a file is too long, whatever follows it.
 fn main() {
     let mut file = [0u8; 22];
     let n = io::read_full(STDIN_FILENO, &mut file);
@@ -120,6 +144,8 @@ fn main() {
     skip_rest();
     match answer {
         EvenPlan::Found(p) => print_plan(p),
-        EvenPlan::Refused(number) => print_refusal(number),
+        EvenPlan::Refused(number) => {
+            refusal_line(number).print();
+        }
     }
 }
