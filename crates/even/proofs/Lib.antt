@@ -2,6 +2,7 @@ pub mod Products
 pub mod OneGap
 pub mod Jumps
 pub mod Search
+pub mod Tries
 pub mod Cases
 pub mod EvenFits
 pub mod EvenPlans

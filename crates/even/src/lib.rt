@@ -113,7 +113,7 @@ fn next_gap(demand: Rate, s: u16) -> u16
     }
 }
 
-// The longest gap from lo to hi that fits, 0 where none does. It tries at most about 2 × √P of them.
+// The longest gap from lo to hi that fits, 0 where none does. It tries about 2 × √P gaps at most (`FewTries` of specs/Search.antt).
 fn gap_within(spec: Spec, lo: u16, hi: u16) -> u16
     requires { ⌜ 1 ≤ lo ⌝ }
     ensures { λ r. ⌜ r ≡ evenGapIn spec lo hi ⌝ }
