@@ -6,20 +6,19 @@ use Prim.Native.Nat.{ℕ, zero, suc, _+_, _*_, _/_, _≤_, _<_, max}
 use native.Mathlib.Omega.{arith}
 use native.Mathlib.Nat.{le-trans, le-refl, mul-comm, zero-mul, suc-mul, le-max-left, le-max-right, max-le, mul-le-mul-left, add-right-comm}
 use mathlib.Core.Path.{_≡_, refl}
-use mathlib.Core.Logic.{_↔_}
-use mathlib.Core.Bool.{true, _&&_, and-eq-true-iff}
+use mathlib.Core.Bool.{true, and-eq-true-iff}
 use borrow.Author.Tests.{leb-true, le-leb}
 use Rattle.spec.specs.declared.Rate.{Rate}
 use Rattle.spec.specs.declared.Rate.the-variants.{Absent, Present}
 use Rattle.spec.specs.declared.Spec.{Spec}
-use Rattle.spec.specs.Limits.{rateLimits, IsAccepted, gapAllowed, sizeAllowed}
+use Rattle.spec.specs.Limits.{rateLimits, IsAccepted, gapAllowed}
 use Rattle.spec.proofs.Facts.{facts, leb-iff, size-allowed-iff, gap-allowed-pos}
 use Rattle.schedule.specs.Rules.{Obeys, SupplyKept, DemandMet}
 use Rattle.schedule.proofs.Sums.{block, block-none, block-add, block-part, block-most, block-least}
 use Rattle.plan.specs.Plans.{evenSize}
 use Rattle.plan.proofs.EvenSizes.{even-block-most, even-block-least, even-size-most, even-size-least}
 use Rattle.even.specs.Even.{mostIn, countAt, totalOf, demandFits, supplyFits, fits}
-use Rattle.even.specs.Statements.{evenly, Feasible, ArithmeticRight}
+use Rattle.even.specs.Statements.{evenly, ArithmeticRight}
 use Rattle.even.proofs.OneGap.{even-stretch, stretch-few, stretch-many, stretch-at-report, stretch-after-report}
 
 -- m reports between dmin and dmax can hold δ

@@ -1,10 +1,10 @@
 -- The even plan that is given is proper and obeys the rules, no longer gap has an endless list of sizes that does, and 10 is given
 -- exactly where no gap has one.
-use Prim.Native.Nat.{ℕ, _+_, _*_, _/_, _≤_, _<_}
+use Prim.Native.Nat.{ℕ, _/_, _≤_, _<_}
 use native.Mathlib.Omega.{arith}
 use native.Mathlib.Nat.{le-mul-of-pos-right, mul-le-mul-right, le-trans, mul-mod-right, div-le-self, mul-comm, mul-div-cancel-left}
 use mathlib.Core.Path.{_≡_, refl, sym, _∙_, subst}
-use mathlib.Core.Logic.{_↔_, ⊎-elim}
+use mathlib.Core.Logic.{⊎-elim}
 use mathlib.Core.Bool.{Bool, true, false, cond, _&&_, and-eq-true-iff}
 use mathlib.Core.List.{List}
 use lib.Dec.{eqb}
@@ -22,10 +22,10 @@ use Rattle.plan.specs.declared.Plan.{Plan}
 use Rattle.plan.specs.Plans.{proper, run, kindRun}
 use Rattle.plan.proofs.Proper.{ProperBounds, proper-kind}
 use Rattle.even.specs.declared.EvenPlan.the-variants.{Found, Refused}
-use Rattle.even.specs.Even.{evenGap, evenPlan, planOr10, evenPlanAt, evenOfRead, evenOf, fits, countAt, totalOf}
+use Rattle.even.specs.Even.{evenGap, evenPlan, planOr10, evenPlanAt, evenOfRead, evenOf, fits, countAt}
 use Rattle.even.specs.Statements.{evenly, EvenPlanObeys, EvenPlanLongest, EvenPlanRefused}
 use Rattle.even.proofs.Search.{Largest, largest-right}
-use Rattle.even.proofs.EvenFits.{Holds, fits-holds, fits-obeys, obeys-fits}
+use Rattle.even.proofs.EvenFits.{fits-holds, fits-obeys, obeys-fits}
 use Rattle.even.proofs.Cases.{plan-none}
 
 -- What is known where a plan is given, or 10 to an accepted specification.

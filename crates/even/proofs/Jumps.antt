@@ -1,9 +1,9 @@
 -- Why the search may jump. Of two gaps with as many reports in P minutes, the longer has no more reports in R minutes, so it fits
 -- if the shorter does. The gaps between s and `nextGap` have as many reports in P minutes as s.
-use Prim.Native.Nat.{ℕ, suc, _+_, _*_, _/_, _≤_, _<_}
+use Prim.Native.Nat.{ℕ, _+_, _*_, _/_, _≤_, _<_}
 use native.Mathlib.Omega.{arith}
-use native.Mathlib.Nat.{le-trans, le-div-iff-mul-le, div-lt-iff-lt-mul, lt-div-mul-add, div-mul-le-self, mul-le-mul-left, mul-le-mul-right, mul-comm, add-mul, one-mul}
-use mathlib.Core.Path.{_≡_, refl, sym, _∙_}
+use native.Mathlib.Nat.{le-trans, le-div-iff-mul-le, div-lt-iff-lt-mul, lt-div-mul-add, div-mul-le-self, mul-le-mul-left, mul-le-mul-right, mul-comm, add-mul}
+use mathlib.Core.Path.{_≡_, refl}
 use mathlib.Core.Logic.{⊎-elim}
 use mathlib.Core.Bool.{Bool, true, false, and-eq-true-iff}
 use borrow.Author.Tests.{leb-true, le-leb}

@@ -4,7 +4,7 @@ use Prim.Native.Nat.{ℕ, zero, suc, _+_, _-_, _*_, _/_, _≤_, _<_}
 use native.Mathlib.Omega.{arith}
 use native.Mathlib.Nat.{le-div-iff-mul-le, suc-mul, add-mul, zero-mul, mul-le-mul-right, mul-le-mul-left, div-mul-le-self, mul-one, mul-add-div-right, add-assoc, add-zero, div-eq-of-lt, mul-div-cancel}
 use native.Mathlib.Numerals.{add-one}
-use mathlib.Core.Path.{_≡_, refl}
+use mathlib.Core.Path.{_≡_}
 use mathlib.Core.Logic.{_↔_, ⊎-elim}
 use Rattle.schedule.specs.Schedules.{sum, minute, stretch}
 use Rattle.schedule.proofs.Sums.{lt-cases, sum-none, sum-more, block}

@@ -2,7 +2,7 @@
 -- then below q, and each jump shortens it: at most 2 × q in all. 142 × 142 is above 20,160.
 use Prim.Native.Nat.{ℕ, zero, suc, _+_, _-_, _*_, _/_, _≤_, _<_}
 use native.Mathlib.Omega.{arith}
-use native.Mathlib.Nat.{le-div-iff-mul-le, div-mul-le-self, mul-div-le, mul-le-mul-left, mul-comm, lt-of-mul-lt-mul-right}
+use native.Mathlib.Nat.{le-div-iff-mul-le, mul-div-le, mul-le-mul-left, lt-of-mul-lt-mul-right}
 use mathlib.Core.Path.{_≡_, refl}
 use mathlib.Core.Logic.{⊎-elim}
 use mathlib.Core.Bool.{Bool, true, false, and-eq-true-iff}
@@ -51,10 +51,10 @@ module _ (l p lo q : ℕ) (low : 0 < lo) (square : p < q * q) where
       ⊎-elim
       (λ h.
       tries-more d lo low n s (q - p / s + q) (λ e.
-          ⊎-elim
-          (λ r. omega (arith, tries-count n next r, count-more s r))
-          (λ r. omega (arith, tries-gap d lo low n next))
-          (lt-cases 0 next)))
+      ⊎-elim
+      (λ r. omega (arith, tries-count n next r, count-more s r))
+      (λ r. omega (arith, tries-gap d lo low n next))
+      (lt-cases 0 next)))
       (λ h. omega (arith, tries-gap d lo low (suc n) s, gap-below s h))
       (lt-cases (p / s) q)
 

@@ -8,7 +8,7 @@ use spec::Spec;
 use spec::SpecRead;
 use spec::refusal;
 ghost use mathlib.Core.Path.{_≡_};
-ghost use Prim.Native.Nat.{_*_, _≤_, _<_, max};
+ghost use Prim.Native.Nat.{_≤_, max};
 ghost use Rattle.spec.specs.Limits.{specNumber};
 ghost use Rattle.even.specs.Even.{mostIn, countAt, totalOf, demandFits, supplyFits, fits, evenGap, evenPlanAt, evenPlan, evenOf, evenNumber};
 ghost use Rattle.even.specs.Search.{evenGapIn, nextGap};

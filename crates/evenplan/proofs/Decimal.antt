@@ -1,15 +1,15 @@
 -- The fewest digits that hold a number, which `io::decimal` writes, are the number in decimal.
 use Prim.Native.Nat.{ℕ, zero, suc, _+_, _-_, _*_, _/_, _%_, _^_, _≤_, _<_}
 use native.Mathlib.Omega.{arith}
-use native.Mathlib.Nat.{mod-eq-of-lt, mod-lt, le-div-iff-mul-le, div-lt-iff-lt-mul, pow-suc, pow-le-pow-right, one-le-pow, le-trans}
-use mathlib.Core.Path.{_≡_, refl, ap}
-use mathlib.Core.List.{List, [], _∷_, _++_}
+use native.Mathlib.Nat.{mod-eq-of-lt, mod-lt, le-div-iff-mul-le, div-lt-iff-lt-mul, pow-suc, pow-le-pow-right, one-le-pow}
+use mathlib.Core.Path.{_≡_, ap, _∙_}
+use mathlib.Core.List.{List, _++_}
 use mathlib.Core.Logic.{⊎-elim}
 use lib.Dec.{ltb, ltb→lt}
 use Rattle.schedule.proofs.Sums.{lt-cases}
 use borrow.Author.Tests.{lt-ltb, le-ltb}
 use Rattle.io.specs.Digits.{glyph, digits, Fewest}
-use Rattle.evenplan.specs.Text.{digit, decimalIn}
+use Rattle.evenplan.specs.Text.{digit, decimalIn, decimal}
 
 glyph-digit : (d : ℕ) → d < 10 → glyph d ≡ 48 + d
 glyph-digit d h = rw (lt-ltb d 10 h)
@@ -18,7 +18,7 @@ sub-one : (k : ℕ) → suc k - 1 ≡ k
 sub-one k = omega arith
 
 -- 20 digits hold every 64-bit number
-pub fewest-few : (k n : ℕ) → Fewest 10 1 n k → n < 2 ^ 64 → k ≤ 20
+fewest-few : (k n : ℕ) → Fewest 10 1 n k → n < 2 ^ 64 → k ≤ 20
 fewest-few k n w h =
     ⊎-elim
     (λ q.
@@ -30,7 +30,7 @@ fewest-few k n w h =
     (λ q. q)
     (lt-cases 20 k)
 
-pub fewest-decimal : (k f n : ℕ) → Fewest 10 1 n k → k ≤ f → digits 10 k n ≡ decimalIn f n
+fewest-decimal : (k f n : ℕ) → Fewest 10 1 n k → k ≤ f → digits 10 k n ≡ decimalIn f n
 unfolding decimalIn
 fewest-decimal zero f n w h = absurd (omega arith)
 fewest-decimal (suc k) zero n w h = absurd (omega arith)
@@ -48,3 +48,9 @@ fewest-decimal (suc (suc k)) (suc f) n w h =
     ) in
     let last = glyph-digit (n % 10) (mod-lt n (omega arith)) in
     rw (decimalIn, le-ltb n 10 ten, last) (ap (λ (l : List ℕ). l ++ digit (n % 10)) (fewest-decimal (suc k) f (n / 10) rest (omega arith)))
+
+-- what `io::decimal` says of the k digits that it wrote for n
+pub written-decimal : (k n : ℕ) {t : List ℕ} → Fewest 10 1 n k → n < 2 ^ 64 → t ≡ digits 10 k n → (k ≤ 20) × (t ≡ decimal n)
+written-decimal k n w h e =
+    let few = fewest-few k n w h in
+    (few, e ∙ fewest-decimal k 20 n w few)

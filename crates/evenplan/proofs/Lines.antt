@@ -1,14 +1,13 @@
 -- How a line grows: by a byte, by a text, by one text after another.
 use Prim.Native.Nat.{ℕ, _+_, _≤_, _<_}
 use native.Mathlib.Omega.{arith}
-use native.Mathlib.Nat.{add-assoc}
 use native.Mathlib.Numerals.{add-one}
-use mathlib.Core.Path.{_≡_, refl, sym, _∙_, ap}
+use mathlib.Core.Path.{_≡_, refl, sym, _∙_}
 use mathlib.Core.List.{List, [], _∷_, _++_, append-assoc, append-nil}
 use lib.ListN.{length, take, getD, set, length-set, length-append}
 use lib.Seq.{length-take-le, take-suc, take-suc-set, take-all}
 use Rattle.evenplan.specs.declared.Line.{Line}
-use Rattle.evenplan.specs.Text.{textOf, Room, Grown, Holds}
+use Rattle.evenplan.specs.Text.{Room, Grown, Holds}
 
 pub grown-byte : (l : Line) (b : ℕ) → Room l 1 → Grown l (b ∷ []) (record { bytes = set (l .bytes) (l .len) b; len = l .len + 1 })
 grown-byte l b r = record {

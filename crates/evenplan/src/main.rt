@@ -6,10 +6,11 @@ use libc::STDIN_FILENO;
 use libc::STDOUT_FILENO;
 use plan::Plan;
 use plan::Reported;
-ghost use Prim.Native.Nat.{_+_, _≤_};
+ghost use Prim.Native.Nat.{ℕ, _+_, _≤_};
 ghost use mathlib.Core.Path.{_≡_};
-ghost use mathlib.Core.List.{[], _∷_};
-ghost use lib.ListN.{length};
+ghost use mathlib.Core.List.{List, [], _∷_};
+ghost use lib.ListN.{length, take};
+ghost use Rattle.even.specs.Even.{evenOf};
 ghost use Rattle.evenplan.specs.Text.{decimal, planLine, reportLine, refusalLine, Room, Grown, Holds};
 
 // A line of text as it grows. No line has more than 80 bytes, though each of its numbers had 20 digits.
@@ -136,11 +137,19 @@ fn skip_rest() {
     }
 }
 
-// The longest specification file has 21 bytes. One byte more shows that a file is too long, whatever follows it.
+// The answer to every file of which these are the first 22 bytes. The longest specification file has 21, so 22 show that a file is
+// too long, whatever follows.
+fn answer_to(front: &[u8]) -> EvenPlan
+    ensures given { λ r. ⌜ r ≡ evenOf (now (front .entry)) ⌝ }
+    ensures whole { λ r. ⌜ ((file : List ℕ) → now (front .entry) ≡ take 22 file → r ≡ evenOf file) ⌝ }
+{
+    even::even_of(front)
+}
+
 fn main() {
-    let mut file = [0u8; 22];
-    let n = io::read_full(STDIN_FILENO, &mut file);
-    let answer = even::even_of(&file[..n]);
+    let mut front = [0u8; 22];
+    let n = io::read_full(STDIN_FILENO, &mut front);
+    let answer = answer_to(&front[..n]);
     skip_rest();
     match answer {
         EvenPlan::Found(p) => print_plan(p),

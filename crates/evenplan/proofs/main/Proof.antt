@@ -12,14 +12,14 @@ slice-aggregate-read-full c = search needs
 read-full-requires : tie.Need-read-full-requires
 read-full-requires c κs = search needs
 
-array-share-prefix-file : tie.Need-array-share-prefix-file
-array-share-prefix-file c = search needs
+array-share-prefix-front : tie.Need-array-share-prefix-front
+array-share-prefix-front c = search needs
 
-slice-aggregate-even-of : tie.Need-slice-aggregate-even-of
-slice-aggregate-even-of c = search needs
+slice-aggregate-answer-to : tie.Need-slice-aggregate-answer-to
+slice-aggregate-answer-to c = search needs
 
-even-of-requires : tie.Need-even-of-requires
-even-of-requires c κs = search needs
+answer-to-requires : tie.Need-answer-to-requires
+answer-to-requires c κs = search needs
 
 skip-rest-requires : tie.Need-skip-rest-requires
 skip-rest-requires c κs = search needs
@@ -29,7 +29,7 @@ enum-known-answer c = search needs
 
 print-plan-requires : tie.Need-print-plan-requires
 print-plan-requires c κs =
-    proper-bounds _ (even-of-proper _ _ (sym (c .before .before .before .before .even-of .ensures) ∙ c .before .answer .given .1)) .some
+    proper-bounds _ (even-of-proper _ _ (sym (c .before .before .before .before .answer-to .ensures .0) ∙ c .before .answer .given .1)) .some
 
 enum-known-answer-2 : tie.Need-enum-known-answer-2
 enum-known-answer-2 c = search needs
@@ -52,9 +52,9 @@ main-spec =
     (tie.spec
     slice-aggregate-read-full
     read-full-requires
-    array-share-prefix-file
-    slice-aggregate-even-of
-    even-of-requires
+    array-share-prefix-front
+    slice-aggregate-answer-to
+    answer-to-requires
     skip-rest-requires
     enum-known-answer
     print-plan-requires

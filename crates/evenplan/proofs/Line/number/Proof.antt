@@ -1,6 +1,6 @@
 -- `io::decimal` writes the fewest digits that hold the number, which are at most 20 and are the number in decimal.
 use native.Mathlib.Omega.{arith}
-use Rattle.evenplan.proofs.Decimal.{fewest-few, fewest-decimal}
+use Rattle.evenplan.proofs.Decimal.{written-decimal}
 use borrow.Author.Needs.{needs}
 use Rattle.evenplan.proofs.Line.number.Statement.{statement}
 use Rattle.evenplan.proofs.Line.number.Tie as tie
@@ -17,15 +17,16 @@ slice-aggregate-text c = search needs
 text-requires : tie.Need-text-requires
 text-requires c κs =
     let answer = c .before .decimal .ensures in
-    let few = fewest-few (c .before .decimal .result) (c .before .before .before .args .n) (answer .1 .0) (c .before .before .before .fits .n .fits) in
-    record { whole = c .before .before .before .pre .whole; left = omega arith }
+    let start = c .before .before .before in
+    let written = written-decimal (c .before .decimal .result) (start .args .n) (answer .1 .0) (start .fits .n .fits) (answer .1 .1) in
+    record { whole = start .pre .whole; left = omega arith }
 
 returns : tie.Need-returns
 returns c =
     let answer = c .before .before .decimal .ensures in
-    let few = fewest-few (c .before .before .decimal .result) (c .before .before .before .before .args .n) (answer .1 .0) (c .before .before .before .before .fits .n .fits) in
-    let e = fewest-decimal (c .before .before .decimal .result) 20 (c .before .before .before .before .args .n) (answer .1 .0) few in
-    (rw (answer .1 .1, e) at (c .text .ensures), omega arith)
+    let start = c .before .before .before .before in
+    let written = written-decimal (c .before .before .decimal .result) (start .args .n) (answer .1 .0) (start .fits .n .fits) (answer .1 .1) in
+    (rw (written .1) at (c .text .ensures), omega arith)
 
 pub number-spec : {M : Type 1} → statement M
 number-spec =

@@ -1,0 +1,31 @@
+-- The first 22 bytes of a file decide how it is read: no map calls for more than 21, so where there are more than 22, both the file and
+-- its first 22 bytes get 1 by their first byte, or 2.
+use Prim.Native.Nat.{ℕ, _/_, _^_, _≤_, _<_}
+use native.Mathlib.Omega.{arith}
+use native.Mathlib.Nat.{mod-lt}
+use mathlib.Core.Path.{_≡_, ap}
+use mathlib.Core.Logic.{⊎-elim}
+use mathlib.Core.List.{List}
+use lib.ListN.{length, take, getD}
+use lib.Seq.{take-all, length-take-le, getD-take}
+use borrow.Author.Tests.{lt-ltb, ne-eqb}
+use Rattle.spec.specs.File.{fileLength, readSpec}
+use Rattle.schedule.proofs.Sums.{lt-cases}
+use Rattle.even.specs.Even.{evenOf, evenOfRead}
+
+file-short : (m : ℕ) → fileLength m ≤ 21
+file-short m = omega (arith, mod-lt (m / 2 ^ 2) {m = 2} (omega arith), mod-lt (m / 2 ^ 3) {m = 2} (omega arith), mod-lt (m / 2 ^ 4) {m = 2} (omega arith))
+
+read-front : (b : List ℕ) → readSpec (take 22 b) ≡ readSpec b
+unfolding readSpec
+read-front b = ⊎-elim long (λ h. ap readSpec (take-all 22 b h)) (lt-cases 22 (length b))
+  where
+    long : 22 < length b → readSpec (take 22 b) ≡ readSpec b
+    long h =
+        let m = getD b 0 0 in
+        let front : length (take 22 b) ≡ 22 = length-take-le 22 b (omega arith) in
+        let short = file-short m in
+        rw (getD-take 22 b 0 0 (omega arith), front, ne-eqb 22 (fileLength m) (λ e. omega arith), ne-eqb (length b) (fileLength m) (λ e. omega arith), lt-ltb 0 (length b) (omega arith))
+
+pub even-of-front : (b : List ℕ) → evenOf (take 22 b) ≡ evenOf b
+even-of-front b = ap evenOfRead (read-front b)
