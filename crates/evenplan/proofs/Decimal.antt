@@ -2,11 +2,10 @@
 use Prim.Native.Nat.{ℕ, zero, suc, _+_, _-_, _*_, _/_, _%_, _^_, _≤_, _<_}
 use native.Mathlib.Omega.{arith}
 use native.Mathlib.Nat.{mod-eq-of-lt, mod-lt, le-div-iff-mul-le, div-lt-iff-lt-mul, pow-suc, pow-le-pow-right, one-le-pow}
+use native.Mathlib.Decide.{decLt}
 use mathlib.Core.Path.{_≡_, ap, _∙_}
 use mathlib.Core.List.{List, _++_}
-use mathlib.Core.Logic.{⊎-elim}
 use lib.Dec.{ltb, ltb→lt}
-use Rattle.schedule.proofs.Sums.{lt-cases}
 use borrow.Author.Tests.{lt-ltb, le-ltb}
 use Rattle.io.specs.Digits.{glyph, digits, Fewest}
 use Rattle.evenplan.specs.Text.{digit, decimalIn, decimal}
@@ -20,15 +19,15 @@ sub-one k = omega arith
 -- 20 digits hold every 64-bit number
 fewest-few : (k n : ℕ) → Fewest 10 1 n k → n < 2 ^ 64 → k ≤ 20
 fewest-few k n w h =
-    ⊎-elim
-    (λ q.
-    absurd
-    (let low : 10 ^ (k - 1) ≤ n = w .2 (omega arith) in
-    let more : 10 ^ 20 ≤ 10 ^ (k - 1) = pow-le-pow-right {n = 10} (omega arith) {i = 20} {j = k - 1} (omega arith) in
-    let less : 2 ^ 64 < 10 ^ 20 = ltb→lt (2 ^ 64) (10 ^ 20) tt in
-    omega arith))
-    (λ q. q)
-    (lt-cases 20 k)
+    elim (decLt 20 k) [
+      | yes q ↦
+          absurd
+          (let low : 10 ^ (k - 1) ≤ n = w .2 (omega arith) in
+          let more : 10 ^ 20 ≤ 10 ^ (k - 1) = pow-le-pow-right {n = 10} (omega arith) {i = 20} {j = k - 1} (omega arith) in
+          let less : 2 ^ 64 < 10 ^ 20 = ltb→lt (2 ^ 64) (10 ^ 20) tt in
+          omega arith)
+      | no q ↦ omega arith
+    ]
 
 fewest-decimal : (k f n : ℕ) → Fewest 10 1 n k → k ≤ f → digits 10 k n ≡ decimalIn f n
 unfolding decimalIn

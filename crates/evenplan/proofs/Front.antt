@@ -3,14 +3,13 @@
 use Prim.Native.Nat.{ℕ, _/_, _^_, _≤_, _<_}
 use native.Mathlib.Omega.{arith}
 use native.Mathlib.Nat.{mod-lt}
+use native.Mathlib.Decide.{decLt}
 use mathlib.Core.Path.{_≡_, ap}
-use mathlib.Core.Logic.{⊎-elim}
 use mathlib.Core.List.{List}
 use lib.ListN.{length, take, getD}
 use lib.Seq.{take-all, length-take-le, getD-take}
 use borrow.Author.Tests.{lt-ltb, ne-eqb}
 use Rattle.spec.specs.File.{fileLength, readSpec}
-use Rattle.schedule.proofs.Sums.{lt-cases}
 use Rattle.even.specs.Even.{evenOf, evenOfRead}
 
 file-short : (m : ℕ) → fileLength m ≤ 21
@@ -18,7 +17,7 @@ file-short m = omega (arith, mod-lt (m / 2 ^ 2) {m = 2} (omega arith), mod-lt (m
 
 read-front : (b : List ℕ) → readSpec (take 22 b) ≡ readSpec b
 unfolding readSpec
-read-front b = ⊎-elim long (λ h. ap readSpec (take-all 22 b h)) (lt-cases 22 (length b))
+read-front b = elim (decLt 22 (length b)) [ yes h ↦ long h | no h ↦ ap readSpec (take-all 22 b (omega arith)) ]
   where
     long : 22 < length b → readSpec (take 22 b) ≡ readSpec b
     long h =
