@@ -30,7 +30,8 @@ pub record Holds (m δ dmin dmax : ℕ) : Type 0 where
 module _ (g : ℕ) (pos : 0 < g) where
   -- From the arithmetic to the rules.
 
-  holds : (r : Rate) (dmin dmax : ℕ) → rateLimits r ≡ true → dmin ≤ dmax → demandFits r dmax (countAt r g) ≡ true → Holds (countAt r g) (totalOf r dmin (countAt r g)) dmin dmax
+  holds : (r : Rate) (dmin dmax : ℕ) → rateLimits r ≡ true → dmin ≤ dmax → demandFits r dmax (countAt r g) ≡ true
+      → Holds (countAt r g) (totalOf r dmin (countAt r g)) dmin dmax
   unfolding countAt totalOf demandFits rateLimits
   holds Absent dmin dmax c h e = record { some = omega arith; low = omega arith; high = omega arith }
   holds (Present l p) dmin dmax c h e =
@@ -71,7 +72,8 @@ module _ (g : ℕ) (pos : 0 < g) where
     blocks-most b n h (suc q) i = rw (suc-mul, suc-mul, block-add f i (q * n) n) (omega (arith, blocks-most b n h q i, h (i + q * n)))
 
     -- every k reports that don't include report 0 hold at least δ
-    pub demand-blocks : (r : Rate) (dmin : ℕ) → ((i : ℕ) → dmin ≤ f i) → DemandMet r (evenly g f) → (j : ℕ) → totalOf r dmin (countAt r g) ≤ block f (j + 1) (countAt r g)
+    pub demand-blocks : (r : Rate) (dmin : ℕ) → ((i : ℕ) → dmin ≤ f i) → DemandMet r (evenly g f)
+        → (j : ℕ) → totalOf r dmin (countAt r g) ≤ block f (j + 1) (countAt r g)
     unfolding totalOf countAt
     demand-blocks Absent dmin h d j = let u = block-least f dmin h (j + 1) 1 in omega arith
     demand-blocks (Present l p) dmin h d j =
@@ -103,7 +105,8 @@ module _ (s : Spec) (g : ℕ) (ok : IsAccepted s) where
   fits-parts e = and-eq-true-iff _ _ .0 e
 
   -- the even plan's numbers at a gap that fits
-  pub fits-holds : 0 < g → fits s g ≡ true → Holds (countAt (s .demand) g) (totalOf (s .demand) (s .dmin) (countAt (s .demand) g)) (s .dmin) (s .dmax)
+  pub fits-holds : 0 < g → fits s g ≡ true
+      → Holds (countAt (s .demand) g) (totalOf (s .demand) (s .dmin) (countAt (s .demand) g)) (s .dmin) (s .dmax)
   fits-holds pos e =
       let k = facts s ok in
       holds g pos (s .demand) (s .dmin) (s .dmax) (k .demand) (k .sizes) (fits-parts e .0)
@@ -114,7 +117,9 @@ module _ (s : Spec) (g : ℕ) (ok : IsAccepted s) where
         let pos : 0 < g = gap-allowed-pos s g ok allowed in
         let z = fits-holds pos e in
         record {
-          sizes = λ i. size-allowed-iff s _ .1 (even-size-least _ _ (z .some) (s .dmin) i (z .low), even-size-most _ _ (z .some) (s .dmax) i (z .high));
+          sizes = λ i.
+              size-allowed-iff s _ .1
+              (even-size-least _ _ (z .some) (s .dmin) i (z .low), even-size-most _ _ (z .some) (s .dmax) i (z .high));
           gaps = λ i. allowed;
           supply = supply-kept g pos (s .supply) _ _ (z .some) (fits-parts e .1);
           demand = demand-met g pos (s .demand) (s .dmin) (z .some);

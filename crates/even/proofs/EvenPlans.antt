@@ -30,7 +30,8 @@ use Rattle.even.proofs.Cases.{plan-none}
 
 -- What is known where a plan is given, or 10 to an accepted specification.
 module _ (n x : ℕ) (q : Plan) where
-  if-found : (p : Plan) (a b : Bool) → eqb n 0 ≡ a → eqb x 0 ≡ b → cond a (cond b (Refused 10) (Found q)) (Refused n) ≡ Found p → (n ≡ 0) × (¬ (x ≡ 0)) × (q ≡ p)
+  if-found : (p : Plan) (a b : Bool) → eqb n 0 ≡ a → eqb x 0 ≡ b
+      → cond a (cond b (Refused 10) (Found q)) (Refused n) ≡ Found p → (n ≡ 0) × (¬ (x ≡ 0)) × (q ≡ p)
   if-found p true true ea eb e = absurd (let z : _≡_ {A = ℕ} 0 1 = cc in omega arith)
   if-found p true false ea eb e = (eqb-true n 0 ea, eqb-false x 0 eb, cc)
   if-found p false b ea eb e = absurd (let z : _≡_ {A = ℕ} 0 1 = cc in omega arith)

@@ -17,15 +17,17 @@ even-gap-requires c κs = search needs
 
 returns-2 : tie.Need-returns-2
 returns-2 c =
-    plan-none _ (c .before .before .before .spec-number .ensures) (c .before .before .if1 .left) (c .before .even-gap .ensures) (c .if2 .taken)
+    let begun = c .before .before in
+    plan-none _ (begun .before .spec-number .ensures) (begun .if1 .left) (c .before .even-gap .ensures) (c .if2 .taken)
 
 plan-at-requires : tie.Need-plan-at-requires
 plan-at-requires c κs = search needs
 
 returns-3 : tie.Need-returns-3
 returns-3 c =
+    let begun = c .before .before .before in
     ap Found (c .plan-at .ensures)
-    ∙ plan-some _ (c .before .before .before .before .spec-number .ensures) (c .before .before .before .if1 .left) (c .before .before .even-gap .ensures) (c .before .if2 .left)
+    ∙ plan-some _ (begun .before .spec-number .ensures) (begun .if1 .left) (c .before .before .even-gap .ensures) (c .before .if2 .left)
 
 pub even-plan-spec : {M : Type 1} → statement M
 even-plan-spec =

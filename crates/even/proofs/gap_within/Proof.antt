@@ -25,7 +25,8 @@ fits-at-requires c κs = search needs
 returns : tie.Need-returns Inv-loop μ-loop
 returns c =
     let at = c .before .before .before .loop in
-    sym (search-hits _ _ _ (omega arith) _ (omega arith) (at .inv .0) (sym (c .before .fits-at .ensures) ∙ c .if1 .taken)) ∙ at .inv .1
+    let passes = sym (c .before .fits-at .ensures) ∙ c .if1 .taken in
+    sym (search-hits _ _ _ (omega arith) _ (omega arith) (at .inv .0) passes) ∙ at .inv .1
 
 next-gap-requires : tie.Need-next-gap-requires Inv-loop μ-loop
 next-gap-requires c κs = search needs
@@ -39,8 +40,8 @@ loop-again : tie.Need-loop-again Inv-loop μ-loop
 loop-again c =
     let at = c .before .before .before .before .loop in
     let less = next-gap-less (c .before .before .before .before .before .args .spec .demand) (at .s) (omega arith) in
-    rw (c .next-gap .ensures)
-    (omega arith, sym (search-jumps _ _ _ (omega arith) (at .s) (omega arith) (sym (c .before .before .fits-at .ensures) ∙ c .before .if1 .left)) ∙ at .inv .1)
+    let fails = sym (c .before .before .fits-at .ensures) ∙ c .before .if1 .left in
+    rw (c .next-gap .ensures) (omega arith, sym (search-jumps _ _ _ (omega arith) (at .s) (omega arith) fails) ∙ at .inv .1)
 
 returns-2 : tie.Need-returns-2 Inv-loop μ-loop
 returns-2 c = sym (search-ends _ _ _ (omega arith) _ (omega arith)) ∙ c .before .loop .inv .1

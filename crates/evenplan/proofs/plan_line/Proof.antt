@@ -40,19 +40,14 @@ byte-requires c κs = search needs
 
 returns : tie.Need-returns
 returns c =
-    grown-holds (c .before .before .before .before .before .before .before .before .before .before .new .ensures .0)
-    (grown-more
-    (grown-more
-    (grown-more
-    (grown-more
-    (grown-more
-    (grown-more (c .before .before .before .before .before .before .before .before .text .ensures) (c .before .before .before .before .before .before .before .number .ensures .0))
-    (c .before .before .before .before .before .text2 .ensures))
-    (c .before .before .before .before .number2 .ensures .0))
-    (c .before .before .text3 .ensures))
-    (c .before .number3 .ensures .0))
-    (c .byte .ensures))
-    (omega (arith, byte-requires (c .before) (c .byte .lifetimes) .left, c .byte .ensures .len))
+    let t₁ = c .before .before .before .before .before .before .before .before .text .ensures in
+    let t₂ = grown-more t₁ (c .before .before .before .before .before .before .before .number .ensures .0) in
+    let t₃ = grown-more t₂ (c .before .before .before .before .before .text2 .ensures) in
+    let t₄ = grown-more t₃ (c .before .before .before .before .number2 .ensures .0) in
+    let t₅ = grown-more t₄ (c .before .before .text3 .ensures) in
+    let t₆ = grown-more t₅ (c .before .number3 .ensures .0) in
+    let t₇ = grown-more t₆ (c .byte .ensures) in
+    grown-holds (c .before .before .before .before .before .before .before .before .before .before .new .ensures .0) t₇ (omega (arith, byte-requires (c .before) (c .byte .lifetimes) .left, c .byte .ensures .len))
 
 pub plan-line-spec : {M : Type 1} → statement M
 plan-line-spec =

@@ -22,9 +22,10 @@ byte-requires c κs = search needs
 
 returns : tie.Need-returns
 returns c =
-    grown-holds (c .before .before .before .before .new .ensures .0)
-    (grown-more (grown-more (c .before .before .text .ensures) (c .before .number .ensures .0)) (c .byte .ensures))
-    (omega arith)
+    let t₁ = c .before .before .text .ensures in
+    let t₂ = grown-more t₁ (c .before .number .ensures .0) in
+    let t₃ = grown-more t₂ (c .byte .ensures) in
+    grown-holds (c .before .before .before .before .new .ensures .0) t₃ (omega arith)
 
 pub refusal-line-spec : {M : Type 1} → statement M
 refusal-line-spec =

@@ -28,17 +28,13 @@ byte-requires-3 c κs = search needs
 
 returns : tie.Need-returns
 returns c =
-    grown-holds (c .before .before .before .before .before .before .new .ensures .0)
-    (grown-more
-    (grown-more
-    (grown-more
-    (grown-more
-    (grown-more (c .before .before .before .before .before .number .ensures .0) (c .before .before .before .before .byte .ensures))
-    (c .before .before .before .number2 .ensures .0))
-    (c .before .before .byte2 .ensures))
-    (c .before .number3 .ensures .0))
-    (c .byte3 .ensures))
-    (omega arith)
+    let t₁ = c .before .before .before .before .before .number .ensures .0 in
+    let t₂ = grown-more t₁ (c .before .before .before .before .byte .ensures) in
+    let t₃ = grown-more t₂ (c .before .before .before .number2 .ensures .0) in
+    let t₄ = grown-more t₃ (c .before .before .byte2 .ensures) in
+    let t₅ = grown-more t₄ (c .before .number3 .ensures .0) in
+    let t₆ = grown-more t₅ (c .byte3 .ensures) in
+    grown-holds (c .before .before .before .before .before .before .new .ensures .0) t₆ (omega arith)
 
 pub report-line-spec : {M : Type 1} → statement M
 report-line-spec =

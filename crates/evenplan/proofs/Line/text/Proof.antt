@@ -22,7 +22,9 @@ shared-slice-read-byte c = search needs
 
 byte-requires : tie.Need-byte-requires Inv-loop μ-loop
 byte-requires c κs =
-    room-next (c .before .before .before .before .args .t .now) (c .before .before .loop .i) (c .before .before .before .before .pre) (c .before .before .loop .inv .1) (omega arith)
+    let start = c .before .before .before .before in
+    let at = c .before .before .loop in
+    room-next (start .args .t .now) (at .i) (start .pre) (at .inv .1) (omega arith)
 
 add-i : tie.Need-add-i Inv-loop μ-loop
 add-i c = search needs
@@ -31,10 +33,9 @@ loop-less : tie.Need-loop-less Inv-loop μ-loop
 loop-less c = omega arith
 
 loop-again : tie.Need-loop-again Inv-loop μ-loop
-loop-again c = (
-  omega arith,
-  grown-next (c .before .before .before .before .before .args .t .now) (c .before .before .before .loop .i) (c .before .before .before .loop .inv .1) (c .byte .ensures) (omega arith),
-)
+loop-again c =
+    let at = c .before .before .before .loop in
+    (omega arith, grown-next (c .before .before .before .before .before .args .t .now) (at .i) (at .inv .1) (c .byte .ensures) (omega arith))
 
 returns : tie.Need-returns Inv-loop μ-loop
 returns c = grown-all (c .before .before .before .args .t .now) (c .before .loop .i) (c .before .loop .inv .1) (omega arith)
