@@ -23,10 +23,10 @@ use Rattle.plan.specs.Plans.{proper, run, kindRun}
 use Rattle.plan.proofs.Proper.{ProperBounds, proper-kind}
 use Rattle.even.specs.declared.EvenPlan.the-variants.{Found, Refused}
 use Rattle.even.specs.Even.{evenGap, evenPlan, planOr10, evenPlanAt, evenOfRead, evenOf, fits, countAt}
-use Rattle.even.specs.Statements.{evenly, EvenPlanObeys, EvenPlanLongest, EvenPlanRefused}
+use Rattle.even.specs.Statements.{evenly, EvenPlanObeys, EvenPlanLongest, EvenPlanGiven, EvenPlanRefused}
 use Rattle.even.proofs.Search.{Largest, largest-right}
 use Rattle.even.proofs.EvenFits.{fits-holds, fits-obeys, obeys-fits}
-use Rattle.even.proofs.Cases.{plan-none}
+use Rattle.even.proofs.Cases.{plan-none, plan-some}
 
 -- What is known where a plan is given, or 10 to an accepted specification.
 module _ (n x : ℕ) (q : Plan) where
@@ -115,6 +115,16 @@ even-plan-longest s p e g h =
     let f = gap-right s (r .1) in
     let l : evenPlanAt s (evenGap s) .period / evenPlanAt s (evenGap s) .count < g = rw (← r .2) at h in
     gap-longest s (r .0) g (omega (arith, plan-at-gap s (evenGap s) (r .0) (f .0) (f .1)))
+
+pub even-plan-given : EvenPlanGiven
+even-plan-given s ok g sizes o =
+    let longest : g ≤ evenGap s = ⊎-elim (λ h. absurd (gap-longest s ok g h sizes o)) (λ h. h) (lt-cases (evenGap s) g) in
+    let some : ¬ (evenGap s ≡ 0) = λ z. omega (arith, gap-allowed-pos s g ok (o .gaps 0)) in
+    let f = gap-right s some in (
+      evenPlanAt s (evenGap s),
+      sym (plan-some s {n = 0} (sym ok) refl refl some),
+      omega (arith, plan-at-gap s (evenGap s) ok (f .0) (f .1)),
+    )
 
 pub even-plan-refused : EvenPlanRefused
 even-plan-refused s ok = (

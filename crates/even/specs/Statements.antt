@@ -1,6 +1,6 @@
 -- Demand 3 for the even plan: its endless run obeys the rules, no longer gap does, and 10 is given exactly where every schedule
 -- with one gap throughout breaks a rule. Proved in proofs/EvenFits.antt and proofs/EvenPlans.antt.
-use Prim.Native.Nat.{ℕ, _/_, _<_}
+use Prim.Native.Nat.{ℕ, _/_, _≤_, _<_}
 use mathlib.Core.Path.{_≡_}
 use mathlib.Core.Logic.{_↔_}
 use mathlib.Core.Bool.{true}
@@ -34,6 +34,12 @@ EvenPlanObeys = (s : Spec) (p : Plan) → evenPlan s ≡ Found p → (proper p �
 abbrev pub EvenPlanLongest : Type 0
 EvenPlanLongest =
     (s : Spec) (p : Plan) → evenPlan s ≡ Found p → (g : ℕ) → p .period / p .count < g → (sizes : ℕ → ℕ) → ¬ Obeys s (evenly g sizes)
+
+-- Where some schedule with one gap throughout obeys the rules, a plan is given, and its gap is no shorter.
+abbrev pub EvenPlanGiven : Type 0
+EvenPlanGiven =
+    (s : Spec) → IsAccepted s → (g : ℕ) (sizes : ℕ → ℕ) → Obeys s (evenly g sizes)
+    → (p : Plan) × (evenPlan s ≡ Found p) × (g ≤ p .period / p .count)
 
 -- The answer to an accepted specification is 10 exactly when every schedule with one gap throughout breaks a rule, whatever the
 -- gap, 0 included, and whatever the endless list of sizes.
