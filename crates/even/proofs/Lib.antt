@@ -1,4 +1,3 @@
-pub mod Products
 pub mod OneGap
 pub mod Jumps
 pub mod Search

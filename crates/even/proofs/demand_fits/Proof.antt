@@ -1,6 +1,6 @@
 -- m and dmax have 16 bits each, so their product fits 64.
 use Rattle.even.specs.Even.{demandFits}
-use Rattle.even.proofs.Products.{fits-mul}
+use Rattle.spec.proofs.Products.{fits-mul}
 use borrow.Author.Needs.{needs}
 use Rattle.even.proofs.demand_fits.Statement.{statement}
 use Rattle.even.proofs.demand_fits.Tie as tie

@@ -1,6 +1,6 @@
 -- m and s have 16 bits each, so the period and the total fit 32.
 use Rattle.even.specs.Even.{evenPlanAt}
-use Rattle.even.proofs.Products.{fits-mul}
+use Rattle.spec.proofs.Products.{fits-mul}
 use borrow.Author.Needs.{needs}
 use Rattle.even.proofs.plan_at.Statement.{statement}
 use Rattle.even.proofs.plan_at.Tie as tie

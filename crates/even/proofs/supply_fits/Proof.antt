@@ -1,6 +1,6 @@
 -- Both products fit 64 bits: n is at most 17 bits wide and δ 32, m and B have 16 each.
 use Rattle.even.specs.Even.{supplyFits}
-use Rattle.even.proofs.Products.{fits-mul}
+use Rattle.spec.proofs.Products.{fits-mul}
 use borrow.Author.Needs.{needs}
 use Rattle.even.proofs.supply_fits.Statement.{statement}
 use Rattle.even.proofs.supply_fits.Tie as tie

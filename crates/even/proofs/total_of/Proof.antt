@@ -1,6 +1,6 @@
 -- m × dmin and L are at most 65535 × 65535, and so is the larger of them.
 use Rattle.even.specs.Even.{totalOf}
-use Rattle.even.proofs.Products.{fits-mul}
+use Rattle.spec.proofs.Products.{fits-mul}
 use native.Mathlib.Nat.{mul-le-mul, max-le}
 use borrow.Author.Needs.{needs}
 use Rattle.even.proofs.total_of.Statement.{statement}
