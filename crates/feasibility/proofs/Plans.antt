@@ -120,8 +120,8 @@ module _ (s : Spec) (q : Rates) (n : Known s q) where
         let t = facts s (n .accepted) in
         sym (proper-kind (planFor f s q k)
         (record {
-          one = v .some;
-          most = v .few;
+          some = v .some;
+          few = v .few;
           long = le-trans (le-mul-of-pos-right k (t .gap-low)) (v .slow);
           short = le-trans (v .fast) (rw mul-comm (mul-le-mul-right k (t .gap-high)));
           full = le-trans (le-mul-of-pos-right k (t .size-low)) (v .large);
