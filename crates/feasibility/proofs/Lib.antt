@@ -1,5 +1,4 @@
 pub mod Negated
-pub mod Products
 pub mod Ceilings
 pub mod Fronts
 pub mod Figures

@@ -1,7 +1,7 @@
 -- `available-closed`: the least is what ends with a period, and with the front that it leaves out it is whole periods. The figure is at
 -- most 1,000 records a minute, so that it fits (`available-most`).
 use native.Mathlib.Omega.{arith}
-use Rattle.feasibility.proofs.Products.{fits-mul}
+use Rattle.spec.proofs.Products.{fits-mul}
 use mathlib.Core.Path.{sym}
 use native.Mathlib.Nat.{div-le-self, mod-lt, le-of-lt}
 use Rattle.feasibility.proofs.Figures.{numbers, front-fits, available-closed, available-most}

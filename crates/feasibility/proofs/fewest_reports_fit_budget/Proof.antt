@@ -1,7 +1,7 @@
 -- By whether the supply rate is there; smax is no 0 in an accepted specification.
 use native.Mathlib.Omega.{arith}
 use Rattle.spec.proofs.Facts.{facts}
-use Rattle.feasibility.proofs.Products.{fits-mul}
+use Rattle.spec.proofs.Products.{fits-mul}
 use Rattle.feasibility.specs.Consistency.{whereRate, fewestReportsFitBudget}
 use native.Mathlib.Nat.{div-le-self}
 use borrow.Author.Needs.{needs}

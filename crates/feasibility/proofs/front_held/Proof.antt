@@ -1,7 +1,7 @@
 -- The code is the closed form of Fronts.antt, `recordsOf` the reports before minute x. All that is left are bounds: a quotient rounded
 -- up is at most two periods, and a size at most a total.
 use native.Mathlib.Omega.{arith}
-use Rattle.feasibility.proofs.Products.{fits-mul}
+use Rattle.spec.proofs.Products.{fits-mul}
 use mathlib.Core.Path.{sym}
 use Prim.Native.Nat.{_≤_}
 use native.Mathlib.Nat.{mul-le-mul}

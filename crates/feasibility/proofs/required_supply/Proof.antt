@@ -1,6 +1,6 @@
 -- `required-closed`: whole periods and the front of one. The figure is at most 1,000 records a minute, so that it fits (`required-most`).
 use native.Mathlib.Omega.{arith}
-use Rattle.feasibility.proofs.Products.{fits-mul}
+use Rattle.spec.proofs.Products.{fits-mul}
 use mathlib.Core.Path.{sym}
 use native.Mathlib.Nat.{div-le-self, mod-lt, le-of-lt}
 use Rattle.feasibility.proofs.Figures.{numbers, required-closed, required-most}

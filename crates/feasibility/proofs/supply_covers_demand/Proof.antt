@@ -1,5 +1,5 @@
 -- By whether both rates are there; a product of two 16-bit numbers fits.
-use Rattle.feasibility.proofs.Products.{fits-mul}
+use Rattle.spec.proofs.Products.{fits-mul}
 use Rattle.feasibility.specs.Consistency.{whereRate, supplyCoversDemand}
 use borrow.Author.Needs.{needs}
 use Rattle.feasibility.proofs.supply_covers_demand.Statement.{statement}

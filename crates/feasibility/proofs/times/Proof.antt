@@ -1,5 +1,5 @@
 -- A product of 32 and 16 bits fits 64.
-use Rattle.feasibility.proofs.Products.{fits-mul}
+use Rattle.spec.proofs.Products.{fits-mul}
 use borrow.Author.Needs.{needs}
 use Rattle.feasibility.proofs.times.Statement.{statement}
 use Rattle.feasibility.proofs.times.Tie as tie
