@@ -141,7 +141,7 @@ module _ (p : Plan) (ok : proper p ≡ true) (well : p .kind ≡ WellFormed) whe
   unfolding required
   required-most r = held-most r
 
--- proper-bounds within which all sums and products of the figures fit
+-- bounds within which all sums and products of the figures fit
 pub record Numbers (p : Plan) : Type 0 where
   pub count : (1 ≤ p .count) × (p .count ≤ 20160)
   pub period : (1 ≤ p .period) × (p .period ≤ 406425600)
