@@ -1,7 +1,7 @@
 -- Well-formed schedules: no stretch holds more than the one that starts at minute 0, and a period holds δ.
 use Prim.Native.Nat.{ℕ, zero, suc, _+_, _-_, _*_, _/_, _%_, _≤_, _<_, min, max}
 use native.Mathlib.Omega.{arith}
-use native.Mathlib.Nat.{mod-lt, div-add-mod, add-mod-right, zero-mul, zero-add, le-trans, le-div-iff-mul-le, add-right-comm, add-zero, mul-comm, lt-of-mul-lt-mul-left, div-le-of-le-mul, le-mul-of-pos-right, sub-zero}
+use native.Mathlib.Nat.{mod-lt, div-add-mod, div-add-mod', add-mod-right, zero-mul, zero-add, le-trans, le-div-iff-mul-le, add-right-comm, add-zero, mul-comm, lt-of-mul-lt-mul-left, div-le-of-le-mul, le-mul-of-pos-right, sub-zero}
 use native.Mathlib.Numerals.{add-one}
 use mathlib.Core.Path.{_≡_, refl, sym, _∙_, ap}
 use mathlib.Core.Logic.{_↔_, _⊎_, inl, inr, ⊎-elim}
@@ -46,6 +46,13 @@ module _ (k : ℕ) (pos : 0 < k) where
         (sum-at k (δ / k) (λ v. cond (ltb v (δ % k)) 1 0) (λ v. min v (δ % k)) (wellSize k δ) pos (omega arith) extra-more size-each 0 k (omega arith))
         ∙ omega (arith, mod-lt δ pos, div-add-mod δ k)
 
+    -- the records of the first i reports: whole periods, and what is left
+    pub size-sum : (i : ℕ) → sum (wellSize k δ) i ≡ i / k * δ + (i % k * (δ / k) + min (i % k) (δ % k))
+    size-sum i =
+        let m : min k (δ % k) ≡ δ % k = omega (arith, mod-lt δ pos) in
+        rw (div-add-mod' i k, m, div-add-mod δ k) at
+        (sum-at k (δ / k) (λ v. cond (ltb v (δ % k)) 1 0) (λ v. min v (δ % k)) (wellSize k δ) pos (omega arith) extra-more size-each (i / k) (i % k) (omega (arith, mod-lt i pos)))
+
     pub size-sub : (j n : ℕ) → sum (wellSize k δ) (j + n) ≤ sum (wellSize k δ) j + sum (wellSize k δ) n
     size-sub j n =
         let s = split k (δ / k) (λ v. cond (ltb v (δ % k)) 1 0) (λ v. min v (δ % k)) (wellSize k δ) pos (omega arith) extra-more size-each j n in
@@ -72,6 +79,13 @@ module _ (k : ℕ) (pos : 0 < k) where
         rw (zero-mul, zero-add) at
         (sum-at k (π / k) (λ v. cond (leb (k - π % k) v) 1 0) (λ v. v - (k - π % k)) (wellGap k π) pos (omega arith) over-more gap-each 0 k (omega arith))
         ∙ omega (arith, mod-lt π pos, div-add-mod π k)
+
+    -- the minute of report i: whole periods, and the gaps before it in its own
+    pub gap-sum : (i : ℕ) → sum (wellGap k π) i ≡ i / k * π + (i % k * (π / k) + (i % k - (k - π % k)))
+    gap-sum i =
+        let m : k - (k - π % k) ≡ π % k = omega (arith, mod-lt π pos) in
+        rw (div-add-mod' i k, m, div-add-mod π k) at
+        (sum-at k (π / k) (λ v. cond (leb (k - π % k) v) 1 0) (λ v. v - (k - π % k)) (wellGap k π) pos (omega arith) over-more gap-each (i / k) (i % k) (omega (arith, mod-lt i pos)))
 
     pub gap-super : (j n : ℕ) → sum (wellGap k π) j + sum (wellGap k π) n ≤ sum (wellGap k π) (j + n)
     gap-super j n =

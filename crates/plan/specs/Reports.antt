@@ -3,15 +3,15 @@ use Prim.Native.Nat.{ℕ}
 use mathlib.Core.Bool.{cond}
 use Rattle.schedule.specs.Schedules.{minute}
 use Rattle.plan.specs.declared.Plan.{Plan}
-use Rattle.plan.specs.declared.Report.{Report}
-use Rattle.plan.specs.declared.Report.the-variants.{At, Refused}
+use Rattle.plan.specs.declared.Reported.{Reported}
+use Rattle.plan.specs.declared.Reported.the-variants.{At, Refused}
 use Rattle.plan.specs.Plans.{proper, run}
 
 -- report i of the plan's endless run, or the refusal
-unfoldable pub reportOf : Plan → ℕ → Report
+unfoldable pub reportOf : Plan → ℕ → Reported
 reportOf p i = cond (proper p) (At (minute (run p) i) (run p .size i)) (Refused 11)
 
 -- the number of a refusal, 0 where there is a report
-abbrev pub reportNumber : Report → ℕ
+abbrev pub reportNumber : Reported → ℕ
 reportNumber (At m d) = 0
 reportNumber (Refused n) = n

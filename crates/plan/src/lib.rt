@@ -1,11 +1,11 @@
 // Plans: k reports in a period of so many minutes with so many records, of one of two kinds; whether a plan is proper, and the
 // minute and size of each report of its endless run, in constant time (document 01, "Schedules from document 000"). Refusal 11.
 // How a plan is found is left to the crates above.
+use spec::refusal;
 ghost use mathlib.Core.Path.{_≡_};
-ghost use Prim.Native.Nat.{_*_, _≤_, _<_, _^_};
-ghost use mathlib.Core.Bool.{true};
-ghost use Rattle.schedule.specs.Schedules.{minute};
-ghost use Rattle.plan.specs.Plans.{proper, run, wellGap, wellSize, evenSize, kindRun};
+ghost use Prim.Native.Nat.{_+_, _-_, _*_, _≤_, _<_, _^_};
+ghost use Rattle.schedule.specs.Schedules.{sum};
+ghost use Rattle.plan.specs.Plans.{proper, wellGap, wellSize, evenSize};
 ghost use Rattle.plan.specs.Reports.{reportOf};
 
 pub enum Kind {
@@ -22,7 +22,7 @@ pub struct Plan {
 }
 
 // Minute and size of a report, or the number of the refusal.
-pub enum Report {
+pub enum Reported {
     At { minute: u64, size: u32 },
     Refused(u32),
 }
@@ -53,5 +53,67 @@ pub fn is_proper(p: Plan) -> bool
     match kind {
         Kind::WellFormed => true,
         Kind::Even => p.period % k == 0,
+    }
+}
+
+// The minute of report i of the well-formed kind: whole periods, and the gaps before it in its own, of which the last are longer.
+fn well_minute(k: u64, period: u64, i: u64) -> u64
+    requires { ⌜ (1 ≤ k) × (k ≤ 20160) × (period ≤ 20160 * k) × (i < 2 ^ 32) ⌝ }
+    ensures { λ r. ⌜ r ≡ sum (wellGap k period) i ⌝ }
+{
+    let j = i % k;
+    let shorter = k - period % k;
+    let longer = less(j, shorter);
+    i / k * period + (j * (period / k) + longer)
+}
+
+// The difference, 0 where it would be below.
+fn less(a: u64, b: u64) -> u64
+    ensures { λ r. ⌜ r ≡ a - b ⌝ }
+{
+    if a < b { 0 } else { a - b }
+}
+
+// The size of report i of the well-formed kind: the first of a period are larger.
+fn well_size(k: u64, total: u64, i: u64) -> u64
+    requires { ⌜ (1 ≤ k) × (total < 2 ^ 25) ⌝ }
+    ensures { λ r. ⌜ (r ≡ wellSize k total i) × (r ≤ total + 1) ⌝ }
+{
+    if i % k < total % k {
+        total / k + 1
+    } else {
+        total / k
+    }
+}
+
+// The size of report i of the even kind.
+fn even_size(k: u64, total: u64, i: u64) -> u64
+    requires { ⌜ (1 ≤ k) × (total < 2 ^ 25) × (i < 2 ^ 32) ⌝ }
+    ensures { λ r. ⌜ (r ≡ evenSize k total i) × (r ≤ total + 1) ⌝ }
+{
+    (i + 1) * total / k - i * total / k
+}
+
+// Minute and size of report i of the plan's endless run.
+pub fn report(p: Plan, i: u32) -> Reported
+    ensures { λ r. ⌜ r ≡ reportOf p i ⌝ }
+{
+    if !is_proper(p) {
+        return Reported::Refused(refusal::NOT_PROPER);
+    }
+    let kind = p.kind;
+    let k = p.count as u64;
+    let period = p.period as u64;
+    let total = p.total as u64;
+    let n = i as u64;
+    match kind {
+        Kind::WellFormed => Reported::At {
+            minute: well_minute(k, period, n),
+            size: well_size(k, total, n) as u32,
+        },
+        Kind::Even => Reported::At {
+            minute: n * (period / k),
+            size: even_size(k, total, n) as u32,
+        },
     }
 }

@@ -25,6 +25,10 @@ unfolding sum
 sum-same f g zero h = refl
 sum-same f g (suc n) h = rw (sum-same f g n (λ i q. h i (omega arith)), h n (omega arith))
 
+pub sum-const : (g n : ℕ) → sum (λ i. g) n ≡ n * g
+sum-const g zero = rw (sum-none (λ i. g), zero-mul)
+sum-const g (suc n) = rw (← add-one n, sum-more (λ i. g) n, sum-const g n, add-one, suc-mul)
+
 -- f lo + .. + f (lo + n - 1)
 unfoldable pub block : (ℕ → ℕ) → ℕ → ℕ → ℕ
 block f lo n = sum (λ j. f (lo + j)) n

@@ -1,22 +1,17 @@
+-- The code asks for the number first, as `judged` does.
 use borrow.Author.Needs.{needs}
 use borrow.Author.Tests.{eq-eqb, ne-eqb}
 use Rattle.spec.specs.File.{judged}
 use Rattle.spec.proofs.accepted.Statement.{statement}
 use Rattle.spec.proofs.accepted.Tie as tie
-use Rattle.spec.proofs.accepted.Reads as reads
-use Rattle.spec.proofs.accepted.Lts as lts
-use Rattle.spec.proofs.spec_number.Reads as spec-number-reads
 
--- src/lib.rt:127:9
 spec-number-requires : tie.Need-spec-number-requires
 spec-number-requires c κs = search needs
 
--- src/lib.rt:124:1
 returns : tie.Need-returns
 unfolding judged
 returns c = rw (← c .before .spec-number .ensures, eq-eqb _ _ (c .if1 .taken))
 
--- src/lib.rt:124:1
 returns-2 : tie.Need-returns-2
 unfolding judged
 returns-2 c = rw (← c .before .spec-number .ensures, ne-eqb _ _ (c .if1 .left))

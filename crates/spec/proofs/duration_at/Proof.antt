@@ -1,28 +1,21 @@
+-- By the bit: where it stands, the two numbers are those of the definition, and they lie in the file.
 use borrow.Author.Needs.{needs}
 use borrow.Author.Tests.{eq-eqb, ne-eqb}
 use Rattle.spec.proofs.duration_at.Statement.{statement}
 use Rattle.spec.proofs.duration_at.Tie as tie
-use Rattle.spec.proofs.duration_at.Reads as reads
-use Rattle.spec.proofs.duration_at.Lts as lts
-use Rattle.spec.proofs.word_at.Reads as word-at-reads
 
--- src/lib.rt:154:18
 word-at-requires : tie.Need-word-at-requires
 word-at-requires c κs = search needs
 
--- src/lib.rt:155:29
 add-word-at : tie.Need-add-word-at
 add-word-at c = search needs
 
--- src/lib.rt:155:18
 word-at-requires-2 : tie.Need-word-at-requires-2
 word-at-requires-2 c κs = search needs
 
--- src/lib.rt:148:1
 returns : tie.Need-returns
 returns c = rw (c .before .word-at .ensures, c .word-at2 .ensures, eq-eqb _ _ (c .before .before .if1 .taken))
 
--- src/lib.rt:148:1
 returns-2 : tie.Need-returns-2
 returns-2 c = rw (ne-eqb _ _ (c .if1 .left))
 

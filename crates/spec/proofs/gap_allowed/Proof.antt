@@ -1,16 +1,12 @@
+-- The test is that of the definition.
 use borrow.Author.Needs.{needs}
 use Rattle.spec.specs.Limits.{gapAllowed}
 use Rattle.spec.proofs.gap_allowed.Statement.{statement}
 use Rattle.spec.proofs.gap_allowed.Tie as tie
-use Rattle.spec.proofs.gap_allowed.Reads as reads
-use Rattle.spec.proofs.gap_allowed.Lts as lts
-use Rattle.spec.proofs.within.Reads as within-reads
 
--- src/lib.rt:121:5
 within-requires : tie.Need-within-requires
 within-requires c κs = search needs
 
--- src/lib.rt:118:1
 returns : tie.Need-returns
 unfolding gapAllowed
 returns c = search needs

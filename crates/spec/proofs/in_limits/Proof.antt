@@ -1,42 +1,30 @@
+-- Each call gives one part of the definition, in its order.
 use borrow.Author.Needs.{needs}
 use Rattle.spec.specs.Limits.{limits}
 use Rattle.spec.proofs.in_limits.Statement.{statement}
 use Rattle.spec.proofs.in_limits.Tie as tie
-use Rattle.spec.proofs.in_limits.Reads as reads
-use Rattle.spec.proofs.in_limits.Lts as lts
-use Rattle.spec.proofs.rate_limits.Reads as rate-limits-reads
-use Rattle.spec.proofs.duration_limits.Reads as duration-limits-reads
-use Rattle.spec.proofs.within.Reads as within-reads
 
--- src/lib.rt:69:5
 within-requires : tie.Need-within-requires
 within-requires c κs = search needs
 
--- src/lib.rt:70:11
 within-requires-2 : tie.Need-within-requires-2
 within-requires-2 c κs = search needs
 
--- src/lib.rt:71:11
 within-requires-3 : tie.Need-within-requires-3
 within-requires-3 c κs = search needs
 
--- src/lib.rt:72:11
 within-requires-4 : tie.Need-within-requires-4
 within-requires-4 c κs = search needs
 
--- src/lib.rt:73:11
 rate-limits-requires : tie.Need-rate-limits-requires
 rate-limits-requires c κs = search needs
 
--- src/lib.rt:74:11
 rate-limits-requires-2 : tie.Need-rate-limits-requires-2
 rate-limits-requires-2 c κs = search needs
 
--- src/lib.rt:75:11
 duration-limits-requires : tie.Need-duration-limits-requires
 duration-limits-requires c κs = search needs
 
--- src/lib.rt:63:1
 returns : tie.Need-returns
 unfolding limits
 returns c = rw (c .before .before .before .before .before .before .within .ensures, c .before .before .before .before .before .within2 .ensures, c .before .before .before .before .within3 .ensures, c .before .before .before .within4 .ensures, c .before .before .rate-limits .ensures, c .before .rate-limits2 .ensures, c .duration-limits .ensures)

@@ -1,57 +1,41 @@
+-- Each field is read at the place that the definition names; the file is as long as the map calls for, so each place lies in it.
 use borrow.Author.Needs.{needs}
 use Rattle.spec.proofs.spec_at.Statement.{statement}
 use Rattle.spec.proofs.spec_at.Tie as tie
-use Rattle.spec.proofs.spec_at.Reads as reads
-use Rattle.spec.proofs.spec_at.Lts as lts
-use Rattle.spec.proofs.rate_at.Reads as rate-at-reads
-use Rattle.spec.proofs.duration_at.Reads as duration-at-reads
-use Rattle.spec.proofs.word_at.Reads as word-at-reads
 
--- src/lib.rt:169:18
 mul-at : tie.Need-mul-at
 mul-at c = search needs
 
--- src/lib.rt:169:14
 add-at : tie.Need-add-at
 add-at c = search needs
 
--- src/lib.rt:170:9
 rate-at-requires : tie.Need-rate-at-requires
 rate-at-requires c κs = search needs
 
--- src/lib.rt:171:9
 rate-at-requires-2 : tie.Need-rate-at-requires-2
 rate-at-requires-2 c κs = search needs
 
--- src/lib.rt:172:50
 mul-duration-at : tie.Need-mul-duration-at
 mul-duration-at c = search needs
 
--- src/lib.rt:172:45
 add-duration-at : tie.Need-add-duration-at
 add-duration-at c = search needs
 
--- src/lib.rt:172:9
 duration-at-requires : tie.Need-duration-at-requires
 duration-at-requires c κs = search needs
 
--- src/lib.rt:174:15
 word-at-requires : tie.Need-word-at-requires
 word-at-requires c κs = search needs
 
--- src/lib.rt:175:15
 word-at-requires-2 : tie.Need-word-at-requires-2
 word-at-requires-2 c κs = search needs
 
--- src/lib.rt:176:15
 word-at-requires-3 : tie.Need-word-at-requires-3
 word-at-requires-3 c κs = search needs
 
--- src/lib.rt:177:15
 word-at-requires-4 : tie.Need-word-at-requires-4
 word-at-requires-4 c κs = search needs
 
--- src/lib.rt:162:1
 returns : tie.Need-returns
 returns c = rw (
   c .before .before .before .before .before .before .rate-at .ensures,

@@ -1,0 +1,14 @@
+/*
+ * Included before plain.c where it is linked beside the library: the same ten
+ * functions under names of their own.
+ */
+#define maxeltu_verdict plain_verdict
+#define maxeltu_consistency plain_consistency
+#define maxeltu_min_demand plain_min_demand
+#define maxeltu_max_supply plain_max_supply
+#define maxeltu_test plain_test
+#define maxeltu_even_plan plain_even_plan
+#define maxeltu_report plain_report
+#define maxeltu_check_cycle plain_check_cycle
+#define maxeltu_read_cycle plain_read_cycle
+#define maxeltu_write_cycle plain_write_cycle

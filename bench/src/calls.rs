@@ -1,0 +1,95 @@
+//! The calls that are measured, of the library and of the plain C version, behind one table of functions.
+
+use reference::Pair;
+
+type TwoFiles = unsafe extern "C" fn(*const u8, usize, *const u8, usize) -> u32;
+type Test = unsafe extern "C" fn(*const u8, usize, *mut u32, *mut u32, *mut u32, *mut u32, *mut u32) -> u32;
+type EvenPlan = unsafe extern "C" fn(*const u8, usize, *mut u32, *mut u32, *mut u32) -> u32;
+type Report = unsafe extern "C" fn(u32, u32, u32, u32, u32, *mut u64, *mut u32) -> u32;
+type CheckCycle = unsafe extern "C" fn(*const u8, usize, *const Pair, usize) -> u32;
+type ReadCycle = unsafe extern "C" fn(*const u8, usize, *mut Pair, usize, *mut u32) -> u32;
+type WriteCycle = unsafe extern "C" fn(*const Pair, usize, *mut u8, usize, *mut u32) -> u32;
+
+#[rustfmt::skip]
+macro_rules! declare {
+    ($verdict:ident $test:ident $even_plan:ident $report:ident $check_cycle:ident $read_cycle:ident $write_cycle:ident) => {
+        extern "C" {
+            fn $verdict(spec: *const u8, spec_len: usize, cycle: *const u8, cycle_len: usize) -> u32;
+            fn $test(spec: *const u8, spec_len: usize, condition: *mut u32, k: *mut u32, period: *mut u32, total: *mut u32, supply: *mut u32) -> u32;
+            fn $even_plan(spec: *const u8, spec_len: usize, k: *mut u32, period: *mut u32, total: *mut u32) -> u32;
+            fn $report(kind: u32, k: u32, period: u32, total: u32, i: u32, minute: *mut u64, size: *mut u32) -> u32;
+            fn $check_cycle(spec: *const u8, spec_len: usize, pairs: *const Pair, count: usize) -> u32;
+            fn $read_cycle(file: *const u8, file_len: usize, pairs: *mut Pair, places: usize, count: *mut u32) -> u32;
+            fn $write_cycle(pairs: *const Pair, count: usize, file: *mut u8, room: usize, written: *mut u32) -> u32;
+        }
+    };
+}
+
+declare!(maxeltu_verdict maxeltu_test maxeltu_even_plan maxeltu_report maxeltu_check_cycle maxeltu_read_cycle maxeltu_write_cycle);
+declare!(plain_verdict plain_test plain_even_plan plain_report plain_check_cycle plain_read_cycle plain_write_cycle);
+
+pub struct Calls {
+    verdict: TwoFiles,
+    test: Test,
+    even_plan: EvenPlan,
+    report: Report,
+    check_cycle: CheckCycle,
+    read_cycle: ReadCycle,
+    write_cycle: WriteCycle,
+}
+
+pub const LIBRARY: Calls = Calls {
+    verdict: maxeltu_verdict,
+    test: maxeltu_test,
+    even_plan: maxeltu_even_plan,
+    report: maxeltu_report,
+    check_cycle: maxeltu_check_cycle,
+    read_cycle: maxeltu_read_cycle,
+    write_cycle: maxeltu_write_cycle,
+};
+
+pub const PLAIN_C: Calls = Calls {
+    verdict: plain_verdict,
+    test: plain_test,
+    even_plan: plain_even_plan,
+    report: plain_report,
+    check_cycle: plain_check_cycle,
+    read_cycle: plain_read_cycle,
+    write_cycle: plain_write_cycle,
+};
+
+// SAFETY, for every call: each pointer leads to as many items as the length beside it says, or to one number; none overlap.
+impl Calls {
+    pub fn verdict(&self, spec: &[u8], cycle: &[u8]) -> u32 {
+        unsafe { (self.verdict)(spec.as_ptr(), spec.len(), cycle.as_ptr(), cycle.len()) }
+    }
+
+    pub fn test(&self, spec: &[u8]) -> u32 {
+        let [mut condition, mut k, mut period, mut total, mut supply] = [0; 5];
+        unsafe { (self.test)(spec.as_ptr(), spec.len(), &mut condition, &mut k, &mut period, &mut total, &mut supply) }
+    }
+
+    pub fn even_plan(&self, spec: &[u8]) -> u32 {
+        let [mut k, mut period, mut total] = [0; 3];
+        unsafe { (self.even_plan)(spec.as_ptr(), spec.len(), &mut k, &mut period, &mut total) }
+    }
+
+    pub fn report(&self, kind: u32, [k, period, total]: [u32; 3], i: u32) -> u32 {
+        let (mut minute, mut size) = (0, 0);
+        unsafe { (self.report)(kind, k, period, total, i, &mut minute, &mut size) }
+    }
+
+    pub fn check_cycle(&self, spec: &[u8], pairs: &[Pair]) -> u32 {
+        unsafe { (self.check_cycle)(spec.as_ptr(), spec.len(), pairs.as_ptr(), pairs.len()) }
+    }
+
+    pub fn read_cycle(&self, file: &[u8], places: &mut [Pair]) -> u32 {
+        let mut count = 0;
+        unsafe { (self.read_cycle)(file.as_ptr(), file.len(), places.as_mut_ptr(), places.len(), &mut count) }
+    }
+
+    pub fn write_cycle(&self, pairs: &[Pair], file: &mut [u8]) -> u32 {
+        let mut written = 0;
+        unsafe { (self.write_cycle)(pairs.as_ptr(), pairs.len(), file.as_mut_ptr(), file.len(), &mut written) }
+    }
+}

@@ -1,0 +1,148 @@
+-- The even plan that is given is proper and obeys the rules, no longer gap has an endless list of sizes that does, and 10 is given
+-- exactly where no gap has one.
+use Prim.Native.Nat.{ℕ, _/_, _≤_, _<_}
+use native.Mathlib.Omega.{arith}
+use native.Mathlib.Nat.{le-mul-of-pos-right, mul-le-mul-right, le-trans, mul-mod-right, div-le-self, mul-comm, mul-div-cancel-left}
+use mathlib.Core.Path.{_≡_, refl, sym, _∙_, subst}
+use mathlib.Core.Logic.{⊎-elim}
+use mathlib.Core.Bool.{Bool, true, false, cond, _&&_, and-eq-true-iff}
+use mathlib.Core.List.{List}
+use lib.Dec.{eqb}
+use borrow.Author.Tests.{eqb-true, eqb-false, eq-eqb}
+use Rattle.spec.specs.declared.Spec.{Spec}
+use Rattle.spec.specs.declared.SpecRead.{SpecRead}
+use Rattle.spec.specs.declared.SpecRead.the-variants.{Accepted, Refused as NotRead}
+use Rattle.spec.specs.declared.Rate.{Rate}
+use Rattle.spec.specs.declared.Rate.the-variants.{Absent, Present}
+use Rattle.spec.specs.Limits.{specNumber, IsAccepted, rateLimits, gapAllowed, gapTop}
+use Rattle.spec.proofs.Facts.{facts, leb-iff, gap-allowed-pos, gap-allowed-top, gap-top-high}
+use Rattle.schedule.specs.Rules.{Obeys}
+use Rattle.schedule.proofs.Sums.{lt-cases}
+use Rattle.plan.specs.declared.Plan.{Plan}
+use Rattle.plan.specs.Plans.{proper, run, kindRun}
+use Rattle.plan.proofs.Proper.{ProperBounds, proper-kind}
+use Rattle.even.specs.declared.EvenPlan.the-variants.{Found, Refused}
+use Rattle.even.specs.Even.{evenGap, evenPlan, planOr10, evenPlanAt, evenOfRead, evenOf, fits, countAt}
+use Rattle.even.specs.Statements.{evenly, EvenPlanObeys, EvenPlanLongest, EvenPlanGiven, EvenPlanRefused}
+use Rattle.even.proofs.Search.{Largest, largest-right}
+use Rattle.even.proofs.EvenFits.{fits-holds, fits-obeys, obeys-fits}
+use Rattle.even.proofs.Cases.{plan-none, plan-some}
+
+-- What is known where a plan is given, or 10 to an accepted specification.
+module _ (n x : ℕ) (q : Plan) where
+  if-found : (p : Plan) (a b : Bool) → eqb n 0 ≡ a → eqb x 0 ≡ b
+      → cond a (cond b (Refused 10) (Found q)) (Refused n) ≡ Found p → (n ≡ 0) × (¬ (x ≡ 0)) × (q ≡ p)
+  if-found p true true ea eb e = absurd (let z : _≡_ {A = ℕ} 0 1 = cc in omega arith)
+  if-found p true false ea eb e = (eqb-true n 0 ea, eqb-false x 0 eb, cc)
+  if-found p false b ea eb e = absurd (let z : _≡_ {A = ℕ} 0 1 = cc in omega arith)
+
+  if-refused : (b : Bool) → eqb x 0 ≡ b → cond b (Refused 10) (Found q) ≡ Refused 10 → x ≡ 0
+  if-refused true eb e = eqb-true x 0 eb
+  if-refused false eb e = absurd (let z : _≡_ {A = ℕ} 0 1 = cc in omega arith)
+
+found : (s : Spec) (p : Plan) → evenPlan s ≡ Found p → IsAccepted s × (¬ (evenGap s ≡ 0)) × (evenPlanAt s (evenGap s) ≡ p)
+unfolding evenPlan planOr10
+found s p e = if-found (specNumber s) (evenGap s) (evenPlanAt s (evenGap s)) p _ _ refl refl e
+
+refused : (s : Spec) → IsAccepted s → evenPlan s ≡ Refused 10 → evenGap s ≡ 0
+unfolding evenPlan planOr10
+refused s ok e = if-refused (specNumber s) (evenGap s) (evenPlanAt s (evenGap s)) _ refl (rw (eq-eqb (specNumber s) 0 ok) at e)
+
+-- The gap at which the search ends is allowed and fits, unless it is 0.
+gap-search : (s : Spec) → Largest (λ g. gapAllowed s g && fits s g) (gapTop s) (evenGap s)
+unfolding evenGap
+gap-search s = largest-right (λ g. gapAllowed s g && fits s g) (gapTop s)
+
+gap-right : (s : Spec) → ¬ (evenGap s ≡ 0) → (gapAllowed s (evenGap s) ≡ true) × (fits s (evenGap s) ≡ true)
+gap-right s h = and-eq-true-iff _ _ .0 (gap-search s .passes (omega arith) .0)
+
+-- No longer gap has an endless list of sizes.
+gap-longest : (s : Spec) → IsAccepted s → (g : ℕ) → evenGap s < g → (sizes : ℕ → ℕ) → ¬ Obeys s (evenly g sizes)
+gap-longest s ok g h sizes o =
+    let allowed : gapAllowed s g ≡ true = o .gaps 0 in
+    let no : gapAllowed s g && fits s g ≡ false = gap-search s .above g h (gap-allowed-top s g allowed) in
+    let yes : gapAllowed s g && fits s g ≡ true = and-eq-true-iff _ _ .1 (allowed, obeys-fits s g ok allowed sizes o) in
+    let z : _≡_ {A = ℕ} 0 1 = cc in
+    omega arith
+
+-- k, π and δ at a gap that is allowed and fits
+count-most : (r : Rate) (g : ℕ) → rateLimits r ≡ true → countAt r g ≤ 20160
+unfolding rateLimits countAt
+count-most Absent g e = omega arith
+count-most (Present l p) g e = let k = simp (and-eq-true-iff, leb-iff) at e in omega (arith, div-le-self p g)
+
+module _ (s : Spec) (g : ℕ) (ok : IsAccepted s) (allowed : gapAllowed s g ≡ true) (e : fits s g ≡ true) where
+  bounds : ProperBounds (evenPlanAt s g)
+  unfolding evenPlanAt
+  bounds =
+      let k = facts s ok in
+      let pos : 0 < g = gap-allowed-pos s g ok allowed in
+      let high : g ≤ 20160 = le-trans (gap-allowed-top s g allowed) (gap-top-high s ok) in
+      let z = fits-holds s g ok pos e in
+      let m = countAt (s .demand) g in
+      record {
+        some = z .some;
+        few = count-most (s .demand) g (k .demand);
+        long = le-mul-of-pos-right m pos;
+        short = rw mul-comm (mul-le-mul-right m high);
+        full = le-trans (le-mul-of-pos-right m (k .size-low)) (z .low);
+        light = le-trans (z .high) (rw mul-comm (mul-le-mul-right m (k .size-high)));
+      }
+
+  plan-at-proper : proper (evenPlanAt s g) ≡ true
+  unfolding evenPlanAt
+  plan-at-proper = sym (proper-kind (evenPlanAt s g) bounds refl) ∙ rw (mul-mod-right (countAt (s .demand) g) g)
+
+  plan-at-obeys : Obeys s (run (evenPlanAt s g))
+  unfolding evenPlanAt run kindRun
+  plan-at-obeys =
+      rw (mul-div-cancel-left g (fits-holds s g ok (gap-allowed-pos s g ok allowed) e .some)) (fits-obeys s g ok allowed e)
+
+  plan-at-gap : evenPlanAt s g .period / evenPlanAt s g .count ≡ g
+  unfolding evenPlanAt
+  plan-at-gap = mul-div-cancel-left g (fits-holds s g ok (gap-allowed-pos s g ok allowed) e .some)
+
+pub even-plan-obeys : EvenPlanObeys
+even-plan-obeys s p e =
+    let r = found s p e in
+    let f = gap-right s (r .1) in
+    subst (λ (q : Plan). (proper q ≡ true) × Obeys s (run q)) (r .2)
+    (plan-at-proper s (evenGap s) (r .0) (f .0) (f .1), plan-at-obeys s (evenGap s) (r .0) (f .0) (f .1))
+
+pub even-plan-longest : EvenPlanLongest
+even-plan-longest s p e g h =
+    let r = found s p e in
+    let f = gap-right s (r .1) in
+    let l : evenPlanAt s (evenGap s) .period / evenPlanAt s (evenGap s) .count < g = rw (← r .2) at h in
+    gap-longest s (r .0) g (omega (arith, plan-at-gap s (evenGap s) (r .0) (f .0) (f .1)))
+
+pub even-plan-given : EvenPlanGiven
+even-plan-given s ok g sizes o =
+    let longest : g ≤ evenGap s = ⊎-elim (λ h. absurd (gap-longest s ok g h sizes o)) (λ h. h) (lt-cases (evenGap s) g) in
+    let some : ¬ (evenGap s ≡ 0) = λ z. omega (arith, gap-allowed-pos s g ok (o .gaps 0)) in
+    let f = gap-right s some in (
+      evenPlanAt s (evenGap s),
+      sym (plan-some s {n = 0} (sym ok) refl refl some),
+      omega (arith, plan-at-gap s (evenGap s) ok (f .0) (f .1)),
+    )
+
+pub even-plan-refused : EvenPlanRefused
+even-plan-refused s ok = (
+  λ e g sizes o. gap-longest s ok g (omega (arith, refused s ok e, gap-allowed-pos s g ok (o .gaps 0))) sizes o,
+  λ none.
+      ⊎-elim
+      (λ h.
+      let f = gap-right s (omega arith) in
+      absurd (none (evenGap s) _ (fits-obeys s (evenGap s) ok (f .0) (f .1))))
+      (λ h. sym (plan-none s {n = 0} (sym ok) {g = 0} refl (omega arith) refl))
+      (lt-cases 0 (evenGap s)),
+)
+
+-- and so of a specification file
+found-proper : (x : SpecRead) (p : Plan) → evenOfRead x ≡ Found p → proper p ≡ true
+unfolding evenOfRead
+found-proper (Accepted s) p e = even-plan-obeys s p e .0
+found-proper (NotRead n) p e = absurd (let z : _≡_ {A = ℕ} 0 1 = cc in omega arith)
+
+pub even-of-proper : (b : List ℕ) (p : Plan) → evenOf b ≡ Found p → proper p ≡ true
+even-of-proper b p e = found-proper _ p e

@@ -1,0 +1,7 @@
+pub mod OneGap
+pub mod Jumps
+pub mod Search
+pub mod Tries
+pub mod Cases
+pub mod EvenFits
+pub mod EvenPlans

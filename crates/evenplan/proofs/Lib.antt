@@ -1,0 +1,3 @@
+pub mod Decimal
+pub mod Lines
+pub mod Front

@@ -1,0 +1,10 @@
+pub mod Negated
+pub mod Ceilings
+pub mod Fronts
+pub mod Figures
+pub mod Plans
+pub mod Taking
+pub mod Best
+pub mod Obeying
+pub mod Outcomes
+pub mod Theorems

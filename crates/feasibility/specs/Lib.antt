@@ -1,0 +1,5 @@
+pub mod Consistency
+pub mod Families
+pub mod Test
+pub mod Answers
+pub mod Statements

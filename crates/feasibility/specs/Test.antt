@@ -1,0 +1,75 @@
+-- Document 01, "The test. If R ≥ P, take the minimum demand schedule with the least required supply over all k; it passes if that is at
+-- most B. Otherwise take the maximum supply schedule with the greatest available supply; it passes if that is at least L. Equal: the
+-- smaller k."; and what it turns down: 3, 4, "5 a rate is absent; 7 inconsistent, and this refusal carries the condition that failed
+-- first; 8 no k has a schedule; 9 the schedule taken does not pass."
+use Prim.Native.Nat.{ℕ, zero, suc}
+use mathlib.Core.Bool.{Bool, cond}
+use lib.Dec.{leb, ltb, eqb}
+use Rattle.spec.specs.declared.Spec.{Spec}
+use Rattle.spec.specs.Limits.{specNumber}
+use Rattle.feasibility.specs.declared.Conditions.{Conditions}
+use Rattle.feasibility.specs.declared.Conditions.the-variants.{AllHold, FirstFailing}
+use Rattle.feasibility.specs.declared.Family.{Family}
+use Rattle.feasibility.specs.declared.Family.the-variants.{MinimumDemand, MaximumSupply}
+use Rattle.feasibility.specs.declared.Rates.{Rates}
+use Rattle.feasibility.specs.declared.BothRates.{BothRates}
+use Rattle.feasibility.specs.declared.BothRates.the-variants.{Both, Missing}
+use Rattle.feasibility.specs.declared.Scheduled.{Scheduled}
+use Rattle.feasibility.specs.declared.Scheduled.the-variants.{Found, Refused as NoneFound}
+use Rattle.feasibility.specs.declared.Tested.{Tested}
+use Rattle.feasibility.specs.declared.Tested.the-variants.{Passed, Refused, Inconsistent}
+use Rattle.feasibility.specs.Consistency.{conditionsOf}
+use Rattle.feasibility.specs.Families.{bothRates, scheduled}
+
+-- "If R ≥ P, take the minimum demand schedule .. Otherwise take the maximum supply schedule"
+unfoldable pub familyOf : Rates → Family
+familyOf q = cond (leb (q .p) (q .r)) MinimumDemand MaximumSupply
+
+-- whether the figure v is better than w: "the least required supply", "the greatest available supply"
+unfoldable pub isBetter : Family → ℕ → ℕ → Bool
+isBetter MinimumDemand v w = ltb v w
+isBetter MaximumSupply v w = ltb w v
+
+-- of the schedule taken so far and the next, the one with the better figure; of equals the one taken so far
+unfoldable pub betterOf : Family → Scheduled → Scheduled → Scheduled
+betterOf f taken (NoneFound n) = taken
+betterOf f (NoneFound n) (Found plan v) = Found plan v
+betterOf f (Found taken w) (Found plan v) = cond (isBetter f v w) (Found plan v) (Found taken w)
+
+-- the schedule taken among those with 1, .., n reports, the smaller numbers first: "Equal: the smaller k." "8 no k has a schedule"
+unfoldable pub takenUpTo : Family → (ℕ → Scheduled) → ℕ → Scheduled
+takenUpTo f schedule zero = NoneFound 8
+takenUpTo f schedule (suc n) = betterOf f (takenUpTo f schedule n) (schedule (suc n))
+
+-- No k above this has a schedule: k × smin ≤ P with smin at least 1, k × dmin ≤ B with dmin at least 1.
+unfoldable pub lastCount : Family → Rates → ℕ
+lastCount MinimumDemand q = q .p
+lastCount MaximumSupply q = q .b
+
+-- "over all k": `taken-best` of proofs/Best.antt says that it is the best of every k without upper end
+unfoldable pub taken : Family → Spec → Rates → Scheduled
+taken f s q = takenUpTo f (scheduled f s q) (lastCount f q)
+
+-- "it passes if that is at most B"; "it passes if that is at least L"
+unfoldable pub passes : Family → Rates → ℕ → Bool
+passes MinimumDemand q v = leb v (q .b)
+passes MaximumSupply q v = leb (q .l) v
+
+-- "9 the schedule taken does not pass"
+unfoldable pub testTaken : Family → Rates → Scheduled → Tested
+testTaken f q (NoneFound n) = Refused n
+testTaken f q (Found plan v) = cond (passes f q v) (Passed plan v) (Refused 9)
+
+-- "7 inconsistent, and this refusal carries the condition that failed first", then 8 and 9
+unfoldable pub testConditions : Conditions → Spec → Rates → Tested
+testConditions AllHold s q = testTaken (familyOf q) q (taken (familyOf q) s q)
+testConditions (FirstFailing c) s q = Inconsistent c
+
+-- "5 a rate is absent", then 7 to 9
+unfoldable pub testRates : BothRates → Spec → Tested
+testRates Missing s = Refused 5
+testRates (Both q) s = testConditions (conditionsOf s) s q
+
+-- 3 and 4, then 5 and 7 to 9
+unfoldable pub testOf : Spec → Tested
+testOf s = cond (eqb (specNumber s) 0) (testRates (bothRates s) s) (Refused (specNumber s))

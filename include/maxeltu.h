@@ -1,0 +1,250 @@
+/*
+ * Maxeltu: a planner and checker of reporting plans for tracking boxes.
+ *
+ * A box sends reports. A specification says how large each report may be
+ * (records), how far apart reports that follow each other may lie (minutes),
+ * at most how many records any R minutes may hold (the supply rate: B, R) and
+ * at least how many any P minutes must hold (the demand rate: L, P).
+ *
+ * Every call answers 0, or the number of its refusal (enum maxeltu_refusal):
+ * the first that applies, in the order that the call's comment gives.
+ *
+ * What holds for every call:
+ *
+ *  - A specification passes as the bytes of its file. A call that takes one
+ *    answers MAXELTU_SPEC_MAP, _LENGTH, _LIMITS or _ORDER before anything else.
+ *  - What a pointer parameter is called to hand back is written only where the
+ *    answer is 0, and `condition` only where it is MAXELTU_INCONSISTENT. In
+ *    every other case the place behind it keeps what it held.
+ *  - No pointer may be null. For an empty list or empty bytes (length 0) pass
+ *    any pointer that is not null; nothing is read or written behind it.
+ *  - The places behind two pointers of one call must not overlap, unless the
+ *    call only reads both of them.
+ *  - No call keeps a pointer, allocates, prints, or holds state between calls:
+ *    calls from several threads at once are fine as long as they share no place
+ *    that one of them writes.
+ *
+ * Specification file: one byte of bit map (bit 0, the lowest, size; 1 gap;
+ * 2 supply; 3 demand; 4 duration). Then, in that order, the pairs whose bit
+ * stands, two 2-byte numbers each, high byte first: dmin dmax, smin smax, B R,
+ * L P, Tmin Tmax. Size and gap must be there.
+ *
+ * Cycle file: the count of pairs, 2 bytes, high byte first. Then for each pair
+ * one byte of bit map (bit 0 gap, bit 1 size) and 2 bytes for each bit that
+ * stands, gap before size, high byte first. The first pair has both fields;
+ * after it a field is left out exactly when it equals that of the pair before.
+ */
+#ifndef MAXELTU_H
+#define MAXELTU_H
+
+#include <stddef.h>
+#include <stdint.h>
+
+#ifdef __cplusplus
+extern "C" {
+#endif
+
+/* What a call answers. */
+enum maxeltu_refusal {
+    MAXELTU_OK = 0,               /* no refusal */
+
+    /* A specification's file. */
+    MAXELTU_SPEC_MAP = 1,         /* no first byte, or its bit map has bit 5 to 7, or lacks size or gap */
+    MAXELTU_SPEC_LENGTH = 2,      /* the length is not the one that the bit map calls for */
+    MAXELTU_SPEC_LIMITS = 3,      /* a value is out of its limits (below, MAXELTU_MAX_..; none may be 0) */
+    MAXELTU_SPEC_ORDER = 4,       /* a lower bound above its upper one: size, gap or duration */
+
+    /* Schedules of k reports, and the test. */
+    MAXELTU_RATE_ABSENT = 5,      /* the supply rate or the demand rate is absent, and both are needed */
+    MAXELTU_NO_SCHEDULE = 6,      /* no schedule with this k */
+    MAXELTU_INCONSISTENT = 7,     /* inconsistent; `condition` says which condition (3 to 6) fails first */
+    MAXELTU_NO_SCHEDULE_AT_ALL = 8, /* no k has a schedule */
+    MAXELTU_NOT_PASSED = 9,       /* the schedule taken does not pass */
+
+    /* The even plan, and the reports of a plan. */
+    MAXELTU_NO_EVEN_PLAN = 10,    /* at no gap of the range does any endless list of sizes obey the rules */
+    MAXELTU_PLAN_IMPROPER = 11,   /* the plan is not proper */
+
+    /* Checking a cycle. */
+    MAXELTU_COUNT = 12,           /* the count of pairs is 0 or above MAXELTU_MAX_PAIRS */
+    MAXELTU_GAP = 13,             /* some gap is out of the specification's range */
+    MAXELTU_SIZE = 14,            /* some size is out of the specification's range */
+    MAXELTU_TOO_FULL = 15,        /* some R minutes hold more than B records */
+    MAXELTU_TOO_THIN = 16,        /* some P minutes hold fewer than L records */
+
+    /* A cycle's file, and the room lent for a cycle or its file. */
+    MAXELTU_PAIR_MAP = 17,        /* a pair's bit map has bit 2 to 7, or the first pair lacks a field */
+    MAXELTU_FILE_LENGTH = 18,     /* the file is cut, or has bytes over */
+    MAXELTU_FIELD_REPEATED = 19,  /* a field that should have been left out: it equals the one before */
+    MAXELTU_NO_ROOM = 20          /* the lent list or the lent bytes are too few */
+};
+
+/* Limits. Each value of a specification is at least 1 and at most: */
+enum maxeltu_limit {
+    MAXELTU_MAX_SIZE = 1000,      /* dmin, dmax: records */
+    MAXELTU_MAX_GAP = 20160,      /* smin, smax: minutes */
+    MAXELTU_MAX_RECORDS = 20000,  /* B, L: records */
+    MAXELTU_MAX_WINDOW = 20160,   /* R, P: minutes */
+    MAXELTU_MAX_DURATION = 60000, /* Tmin, Tmax: minutes */
+
+    MAXELTU_MAX_PAIRS = 512,      /* pairs in a cycle */
+    MAXELTU_MAX_SPEC_FILE = 21,   /* bytes of the longest specification file */
+    MAXELTU_MAX_CYCLE_FILE = 2562 /* bytes of the longest cycle file: 2 + 512 * 5 */
+};
+
+/* The kinds of a plan, for maxeltu_report. */
+enum maxeltu_kind {
+    MAXELTU_WELL_FORMED = 0,      /* what maxeltu_min_demand, _max_supply and _test hand back */
+    MAXELTU_EVEN = 1              /* what maxeltu_even_plan hands back */
+};
+
+/*
+ * One report of a cycle: its size in records, and the gap in minutes from it to
+ * the next report (from the last pair, to the first report of the next round).
+ */
+struct maxeltu_pair {
+    uint16_t gap;
+    uint16_t size;
+};
+
+/*
+ * The loader's call: reads a specification file and a cycle file and checks the
+ * cycle against the specification, over its endless repetition.
+ *
+ * Answers 0 where the cycle obeys the specification; 1 to 4 for the
+ * specification; then 12, 17, 18, 19 for the cycle file, as maxeltu_read_cycle
+ * does; then 13 to 16, as maxeltu_check_cycle does.
+ * Writes nothing.
+ */
+uint32_t maxeltu_verdict(const uint8_t *spec, size_t spec_len,
+                         const uint8_t *cycle, size_t cycle_len);
+
+/*
+ * Whether the specification is consistent. The conditions, of which a part that
+ * names an absent value is not applied:
+ *   3  dmax <= B, smax <= P, P <= Tmin
+ *   4  dmin * floor(R / smax) <= B
+ *   5  ceil(L / dmax) <= floor(P / smin)
+ *   6  B * P >= L * R
+ *
+ * Answers 0 where it is; 1 to 4; 7 where it is not.
+ * Writes *condition, the first condition that fails (3 to 6; these are not
+ * refusal numbers), only where the answer is 7.
+ */
+uint32_t maxeltu_consistency(const uint8_t *spec, size_t spec_len,
+                             uint32_t *condition);
+
+/*
+ * The minimum demand schedule with k reports in a period, a plan of the
+ * well-formed kind. It exists when k * smin <= P and k * dmax >= L.
+ *
+ * Answers 0; 1 to 4; 5 where a rate is absent; 6 where it does not exist (any k
+ * may be asked for, 0 too).
+ * Writes *period, the smaller of k * smax and P (minutes); *total, the larger of
+ * k * dmin and L (records); *required, the records that minutes 0 to R - 1 hold.
+ */
+uint32_t maxeltu_min_demand(const uint8_t *spec, size_t spec_len, uint32_t k,
+                            uint32_t *period, uint32_t *total,
+                            uint32_t *required);
+
+/*
+ * The maximum supply schedule with k reports in a period, a plan of the
+ * well-formed kind. It exists when k * smax >= R and k * dmin <= B.
+ *
+ * Answers 0; 1 to 4; 5 where a rate is absent; 6 where it does not exist (any k
+ * may be asked for, 0 too).
+ * Writes *period, the larger of k * smin and R (minutes); *total, the smaller of
+ * k * dmax and B (records); *available, the least that any stretch of P minutes
+ * holds.
+ */
+uint32_t maxeltu_max_supply(const uint8_t *spec, size_t spec_len, uint32_t k,
+                            uint32_t *period, uint32_t *total,
+                            uint32_t *available);
+
+/*
+ * The test. If R >= P it takes the minimum demand schedule with the least
+ * required supply over all k, which passes if that is at most B; otherwise the
+ * maximum supply schedule with the greatest available supply, which passes if
+ * that is at least L. Where several are equal it takes the smallest k.
+ *
+ * Answers 0 where the schedule taken passes: then its endless run obeys the
+ * specification. 1 to 4; 5 where a rate is absent; 7 where the specification is
+ * inconsistent; 8 where no k has a schedule; 9 where the one taken does not pass.
+ * Writes *condition, the condition that fails first, only where the answer is 7;
+ * and only where it is 0 *k, *period and *total, the plan (of the well-formed
+ * kind), and *supply, its required or available supply.
+ */
+uint32_t maxeltu_test(const uint8_t *spec, size_t spec_len,
+                      uint32_t *condition, uint32_t *k, uint32_t *period,
+                      uint32_t *total, uint32_t *supply);
+
+/*
+ * The even plan: a schedule whose gaps are all the same, as large as the range
+ * and the rules allow. Consistency is not asked for.
+ *
+ * Answers 0; 1 to 4; 10 where none exists: no gap of the range has any endless
+ * list of sizes that obeys the rules.
+ * Writes *k, *period and *total, a plan of the even kind. Its gap is
+ * *period / *k minutes.
+ */
+uint32_t maxeltu_even_plan(const uint8_t *spec, size_t spec_len,
+                           uint32_t *k, uint32_t *period, uint32_t *total);
+
+/*
+ * Minute and size of report i of a plan's endless run (reports count from 0;
+ * report 0 is at minute 0). Any i may be asked for.
+ *
+ * `kind` is an enum maxeltu_kind. A plan is proper when 1 <= k <= 20160,
+ * k <= period <= 20160 * k and k <= total <= 1000 * k, and for the even kind k
+ * divides the period. A plan of any other kind is not proper.
+ *
+ * Answers 0; 11 where the plan is not proper.
+ * Writes *minute and *size.
+ */
+uint32_t maxeltu_report(uint32_t kind, uint32_t k, uint32_t period,
+                        uint32_t total, uint32_t i,
+                        uint64_t *minute, uint32_t *size);
+
+/*
+ * Checks a cycle of `count` pairs against the specification, over its endless
+ * repetition.
+ *
+ * Answers 0 where it obeys; 1 to 4; 12 where count is 0 or above 512; 13 where
+ * some gap is out of range; 14 where some size is; 15 where some stretch of R
+ * minutes is too full; 16 where some stretch of P minutes is too thin.
+ * Reads `count` pairs. Writes nothing.
+ */
+uint32_t maxeltu_check_cycle(const uint8_t *spec, size_t spec_len,
+                             const struct maxeltu_pair *pairs, size_t count);
+
+/*
+ * Reads a cycle file into a lent list of `places` pairs.
+ *
+ * Answers 0; 18 where the file has under 2 bytes; 12 where its count is 0 or
+ * above 512; 20 where places are fewer than the count; then pair by pair 18 no
+ * map byte, 17 a bad map, 18 a field that is cut, 19 a field that should be left
+ * out; last 18 where bytes are left over.
+ * Writes the pairs to the first *count places, and *count. Places past the
+ * count keep their contents; so do all places where the answer is not 0.
+ */
+uint32_t maxeltu_read_cycle(const uint8_t *file, size_t file_len,
+                            struct maxeltu_pair *pairs, size_t places,
+                            uint32_t *count);
+
+/*
+ * Writes the file of a cycle of `count` pairs into `room` lent bytes. Gaps and
+ * sizes may be any 16-bit numbers.
+ *
+ * Answers 0; 12 where count is 0 or above 512; 20 where room is less than the
+ * file's length (MAXELTU_MAX_CYCLE_FILE bytes are always enough).
+ * Writes the file to the first *written bytes, and *written. Bytes past the
+ * file keep their contents; so do all bytes where the answer is not 0.
+ */
+uint32_t maxeltu_write_cycle(const struct maxeltu_pair *pairs, size_t count,
+                             uint8_t *file, size_t room, uint32_t *written);
+
+#ifdef __cplusplus
+}
+#endif
+
+#endif

@@ -1,0 +1,430 @@
+/*
+ * The ten calls from C, through include/maxeltu.h: the samples, every refusal
+ * of every call, and the places that a call must leave as they were.
+ *
+ * Prints a line for each group, whose name starts with the argument if there is
+ * one. Exit status 0 if all of them passed.
+ */
+#include <stdarg.h>
+#include <stdbool.h>
+#include <stdio.h>
+#include <string.h>
+
+#include "maxeltu.h"
+
+/* ---- groups and checks ---- */
+
+static const char *build = "C", *group;
+static unsigned checks, failures, failed_groups;
+
+static void begin(const char *name)
+{
+    group = name;
+    checks = failures = 0;
+}
+
+static void end(void)
+{
+    printf("%s %s, %s: %u checks", failures ? "FAILED" : "ok    ", build, group, checks);
+    if (failures)
+        printf(", %u failed", failures);
+    printf("\n");
+    failed_groups += failures > 0;
+}
+
+static void check_at(bool holds, const char *text, int line)
+{
+    checks++;
+    if (!holds) {
+        failures++;
+        printf("       line %d: %s\n", line, text);
+    }
+}
+
+#define CHECK(condition) check_at(condition, #condition, __LINE__)
+
+/* ---- inputs ---- */
+
+struct spec_file {
+    uint8_t bytes[MAXELTU_MAX_SPEC_FILE];
+    size_t length;
+};
+
+/* The file with this bit map and these numbers. */
+static struct spec_file spec_of(uint8_t map, size_t numbers, ...)
+{
+    struct spec_file file = { { map }, 1 };
+    va_list list;
+    va_start(list, numbers);
+    for (size_t i = 0; i < numbers; i++) {
+        int number = va_arg(list, int);
+        file.bytes[file.length++] = (uint8_t)(number >> 8);
+        file.bytes[file.length++] = (uint8_t)number;
+    }
+    va_end(list);
+    return file;
+}
+
+#define SPEC(s) (s).bytes, (s).length
+
+static struct spec_file sample_a(int b) { return spec_of(15, 8, 3, 10, 45, 55, b, 220, 17, 158); }
+static struct spec_file sample_b(int b) { return spec_of(15, 8, 2, 3, 5, 5, b, 26, 10, 20); }
+static struct spec_file sample_c(void) { return spec_of(15, 8, 5, 6, 45, 46, 10, 79, 17, 159); }
+static struct spec_file sample_d(void) { return spec_of(15, 8, 3, 5, 35, 46, 10, 79, 17, 158); }
+static struct spec_file sample_e(void) { return spec_of(15, 8, 3, 10, 45, 80, 10, 79, 17, 159); }
+static struct spec_file sample_f(void) { return spec_of(15, 8, 5, 5, 4, 4, 10, 10, 5, 20); }
+
+/* ---- places that a call is lent ---- */
+
+/* Five numbers, among them what a call writes; the rest must stay. */
+static uint32_t places[5];
+static const uint32_t held[5] = { 0xA1B2C3D4, 0x5E6F7081, 0x92A3B4C5, 0xD6E7F809, 0x1A2B3C4D };
+
+static void fill_places(void) { memcpy(places, held, sizeof places); }
+static bool untouched_from(size_t first) { return memcmp(places + first, held + first, sizeof places - first * sizeof *places) == 0; }
+static bool untouched(void) { return untouched_from(0); }
+
+static uint32_t consistency(struct spec_file s)
+{
+    fill_places();
+    return maxeltu_consistency(SPEC(s), &places[0]);
+}
+
+static uint32_t min_demand(struct spec_file s, uint32_t k)
+{
+    fill_places();
+    return maxeltu_min_demand(SPEC(s), k, &places[0], &places[1], &places[2]);
+}
+
+static uint32_t max_supply(struct spec_file s, uint32_t k)
+{
+    fill_places();
+    return maxeltu_max_supply(SPEC(s), k, &places[0], &places[1], &places[2]);
+}
+
+/* The condition comes to the fifth place, so that the plan stands first. */
+static uint32_t test(struct spec_file s)
+{
+    fill_places();
+    return maxeltu_test(SPEC(s), &places[4], &places[0], &places[1], &places[2], &places[3]);
+}
+
+static uint32_t even_plan(struct spec_file s)
+{
+    fill_places();
+    return maxeltu_even_plan(SPEC(s), &places[0], &places[1], &places[2]);
+}
+
+/* The places from here to the end are untouched, and those before it hold these numbers. */
+static bool hold(size_t numbers, ...)
+{
+    va_list list;
+    bool same = untouched_from(numbers);
+    va_start(list, numbers);
+    for (size_t i = 0; i < numbers; i++)
+        same &= places[i] == va_arg(list, unsigned);
+    va_end(list);
+    return same;
+}
+
+/* ---- samples ---- */
+
+static bool report_is(uint32_t kind, uint32_t k, uint32_t period, uint32_t total,
+                      uint32_t i, uint64_t minute, uint32_t size)
+{
+    uint64_t got_minute;
+    uint32_t got_size;
+    return maxeltu_report(kind, k, period, total, i, &got_minute, &got_size) == MAXELTU_OK
+        && got_minute == minute && got_size == size;
+}
+
+static void samples_of_plans(void)
+{
+    begin("samples A to F");
+    CHECK(min_demand(sample_a(29), 2) == 0 && hold(3, 110, 17, 34));
+    CHECK(min_demand(sample_a(29), 3) == 0 && hold(3, 158, 17, 29));
+    CHECK(test(sample_a(29)) == 0 && hold(4, 3, 158, 17, 29));
+    CHECK(report_is(MAXELTU_WELL_FORMED, 3, 158, 17, 0, 0, 6));
+    CHECK(report_is(MAXELTU_WELL_FORMED, 3, 158, 17, 1, 52, 6));
+    CHECK(report_is(MAXELTU_WELL_FORMED, 3, 158, 17, 2, 105, 5));
+    CHECK(report_is(MAXELTU_WELL_FORMED, 3, 158, 17, 3, 158, 6));
+    CHECK(even_plan(sample_a(29)) == 0 && hold(3, 3, 156, 17));
+    CHECK(test(sample_a(28)) == MAXELTU_NOT_PASSED && untouched());
+    CHECK(even_plan(sample_a(28)) == MAXELTU_NO_EVEN_PLAN && untouched());
+    CHECK(test(sample_b(16)) == 0 && hold(4, 4, 20, 10, 16));
+    CHECK(test(sample_b(15)) == MAXELTU_NOT_PASSED && untouched());
+    CHECK(even_plan(sample_b(15)) == 0 && hold(3, 4, 20, 10));
+    CHECK(even_plan(sample_b(14)) == MAXELTU_NO_EVEN_PLAN && untouched());
+    for (uint32_t i = 0; i < 4; i++)
+        CHECK(report_is(MAXELTU_EVEN, 4, 20, 10, i, 5 * i, 2 + i % 2));
+    CHECK(max_supply(sample_c(), 2) == 0 && hold(3, 90, 10, 15));
+    CHECK(test(sample_c()) == MAXELTU_NOT_PASSED && untouched());
+    CHECK(even_plan(sample_c()) == MAXELTU_NO_EVEN_PLAN && untouched());
+    CHECK(test(sample_d()) == 0 && hold(4, 2, 79, 10, 20));
+    CHECK(even_plan(sample_d()) == MAXELTU_NO_EVEN_PLAN && untouched());
+    CHECK(test(sample_e()) == 0 && hold(4, 1, 79, 10, 20));
+    CHECK(consistency(sample_f()) == 0 && untouched());
+    CHECK(test(sample_f()) == MAXELTU_NO_SCHEDULE_AT_ALL && untouched());
+    CHECK(even_plan(spec_of(7, 6, 5, 5, 4, 4, 10, 10)) == MAXELTU_NO_EVEN_PLAN && untouched());
+    end();
+}
+
+static uint32_t check_sizes(struct spec_file s, uint16_t gap, size_t count, const uint16_t *sizes)
+{
+    struct maxeltu_pair pairs[MAXELTU_MAX_PAIRS];
+    uint8_t file[MAXELTU_MAX_CYCLE_FILE];
+    uint32_t written;
+    for (size_t i = 0; i < count; i++)
+        pairs[i] = (struct maxeltu_pair){ .gap = gap, .size = sizes[i] };
+    uint32_t answer = maxeltu_check_cycle(SPEC(s), pairs, count);
+    CHECK(maxeltu_write_cycle(pairs, count, file, sizeof file, &written) == 0);
+    CHECK(maxeltu_verdict(SPEC(s), file, written) == answer);
+    return answer;
+}
+
+static void samples_of_cycles(void)
+{
+    begin("sample G");
+    CHECK(check_sizes(sample_b(15), 5, 2, (uint16_t[]){ 3, 2 }) == MAXELTU_OK);
+    CHECK(check_sizes(sample_b(15), 5, 4, (uint16_t[]){ 3, 3, 2, 2 }) == MAXELTU_TOO_FULL);
+    CHECK(check_sizes(sample_b(15), 5, 4, (uint16_t[]){ 2, 2, 2, 3 }) == MAXELTU_TOO_THIN);
+    CHECK(check_sizes(sample_b(15), 6, 2, (uint16_t[]){ 4, 2 }) == MAXELTU_GAP);
+    CHECK(check_sizes(sample_b(15), 4, 2, (uint16_t[]){ 3, 2 }) == MAXELTU_GAP);
+    CHECK(check_sizes(sample_b(15), 5, 2, (uint16_t[]){ 3, 4 }) == MAXELTU_SIZE);
+    CHECK(check_sizes(sample_b(15), 5, 2, (uint16_t[]){ 1, 2 }) == MAXELTU_SIZE);
+    end();
+}
+
+/* ---- refusals ---- */
+
+/* Every call that takes a specification answers this, and writes nothing. */
+static void refused_everywhere(struct spec_file s, uint32_t refusal)
+{
+    static const uint8_t cycle[] = { 0, 1, 3, 0, 5, 0, 2 };
+    static const struct maxeltu_pair pair = { 5, 2 };
+    CHECK(maxeltu_verdict(SPEC(s), cycle, sizeof cycle) == refusal);
+    CHECK(maxeltu_verdict(SPEC(s), cycle, 0) == refusal);
+    CHECK(consistency(s) == refusal && untouched());
+    CHECK(min_demand(s, 1) == refusal && untouched());
+    CHECK(max_supply(s, 1) == refusal && untouched());
+    CHECK(test(s) == refusal && untouched());
+    CHECK(even_plan(s) == refusal && untouched());
+    CHECK(maxeltu_check_cycle(SPEC(s), &pair, 1) == refusal);
+    CHECK(maxeltu_check_cycle(SPEC(s), &pair, 0) == refusal);
+}
+
+static void refusals_of_specifications(void)
+{
+    begin("refusals 1 to 4 of every call");
+    struct spec_file s = sample_b(15);
+    s.length = 0;
+    refused_everywhere(s, MAXELTU_SPEC_MAP);
+    s = sample_b(15);
+    static const uint8_t bad_maps[] = { 0x2F, 0x4F, 0x8F, 0x0E, 0x0D, 0x00, 0xFF };
+    for (size_t i = 0; i < sizeof bad_maps; i++) {
+        s.bytes[0] = bad_maps[i];
+        refused_everywhere(s, MAXELTU_SPEC_MAP);
+    }
+    s = sample_b(15);
+    s.length--;
+    refused_everywhere(s, MAXELTU_SPEC_LENGTH);
+    s.length += 2;
+    refused_everywhere(s, MAXELTU_SPEC_LENGTH);
+    s = sample_b(15);
+    s.bytes[0] = 0x1F;
+    refused_everywhere(s, MAXELTU_SPEC_LENGTH);
+    static const int limits[] = { 1000, 1000, 20160, 20160, 20000, 20160, 20000, 20160, 60000, 60000 };
+    for (size_t i = 0; i < 10; i++) {
+        static const int wrong[] = { 0, 1, 65535 };
+        for (size_t w = 0; w < 3; w++) {
+            /* Also the wrong order, which comes second. */
+            s = spec_of(31, 10, 3, 2, 6, 5, 15, 26, 10, 20, 60, 50);
+            int value = wrong[w] == 1 ? limits[i] + 1 : wrong[w];
+            s.bytes[1 + 2 * i] = (uint8_t)(value >> 8);
+            s.bytes[2 + 2 * i] = (uint8_t)value;
+            refused_everywhere(s, MAXELTU_SPEC_LIMITS);
+        }
+    }
+    refused_everywhere(spec_of(15, 8, 3, 2, 5, 5, 15, 26, 10, 20), MAXELTU_SPEC_ORDER);
+    refused_everywhere(spec_of(15, 8, 2, 3, 6, 5, 15, 26, 10, 20), MAXELTU_SPEC_ORDER);
+    refused_everywhere(spec_of(31, 10, 2, 3, 5, 5, 15, 26, 10, 20, 60, 59), MAXELTU_SPEC_ORDER);
+    end();
+}
+
+static void refusals_of_plans(void)
+{
+    begin("refusals 5 to 10");
+    struct spec_file no_supply = spec_of(11, 6, 2, 3, 5, 5, 10, 20);
+    struct spec_file no_demand = spec_of(7, 6, 2, 3, 5, 5, 15, 26);
+    CHECK(min_demand(no_supply, 4) == MAXELTU_RATE_ABSENT && untouched());
+    CHECK(min_demand(no_demand, 4) == MAXELTU_RATE_ABSENT && untouched());
+    CHECK(max_supply(no_supply, 4) == MAXELTU_RATE_ABSENT && untouched());
+    CHECK(max_supply(no_demand, 4) == MAXELTU_RATE_ABSENT && untouched());
+    CHECK(test(no_supply) == MAXELTU_RATE_ABSENT && untouched());
+    CHECK(test(no_demand) == MAXELTU_RATE_ABSENT && untouched());
+    /* An absent rate comes before inconsistency: smax is above P here. */
+    CHECK(test(spec_of(11, 6, 2, 3, 5, 30, 10, 20)) == MAXELTU_RATE_ABSENT && untouched());
+    static const uint32_t no_schedule[] = { 0, 1, 3, 5, 858993460, 0x80000000, 0xFFFFFFFF };
+    for (size_t i = 0; i < sizeof no_schedule / sizeof *no_schedule; i++)
+        CHECK(min_demand(sample_b(16), no_schedule[i]) == MAXELTU_NO_SCHEDULE && untouched());
+    static const uint32_t no_supply_schedule[] = { 0, 1, 5, 9, 0x80000000, 0xFFFFFFFF };
+    for (size_t i = 0; i < sizeof no_supply_schedule / sizeof *no_supply_schedule; i++)
+        CHECK(max_supply(sample_b(16), no_supply_schedule[i]) == MAXELTU_NO_SCHEDULE && untouched());
+    struct spec_file inconsistent[] = {
+        spec_of(15, 8, 2, 17, 5, 5, 16, 26, 10, 20),          /* dmax > B */
+        spec_of(15, 8, 2, 3, 5, 21, 16, 26, 10, 20),          /* smax > P */
+        spec_of(31, 10, 2, 3, 5, 5, 16, 26, 10, 20, 19, 60),  /* P > Tmin */
+        spec_of(15, 8, 2, 3, 5, 5, 9, 26, 10, 20),            /* 2 * 5 > 9 */
+        spec_of(15, 8, 2, 3, 5, 5, 16, 26, 13, 20),           /* 5 reports of 3, 4 fit */
+        spec_of(15, 8, 2, 3, 5, 5, 12, 26, 10, 20),           /* 12 * 20 < 10 * 26 */
+    };
+    static const uint32_t failing[] = { 3, 3, 3, 4, 5, 6 };
+    for (size_t i = 0; i < sizeof failing / sizeof *failing; i++) {
+        CHECK(consistency(inconsistent[i]) == MAXELTU_INCONSISTENT && hold(1, failing[i]));
+        CHECK(test(inconsistent[i]) == MAXELTU_INCONSISTENT && places[4] == failing[i]);
+        CHECK(memcmp(places, held, 4 * sizeof *places) == 0);
+    }
+    CHECK(even_plan(no_supply) == 0 && hold(3, 4, 20, 10));
+    CHECK(even_plan(no_demand) == 0 && hold(3, 1, 5, 2));
+    end();
+}
+
+static void refusals_of_reports(void)
+{
+    begin("refusal 11 and far reports");
+    static const uint32_t improper[][4] = {
+        { 0, 0, 20, 10 }, { 0, 20161, 20161, 20161 }, { 0, 4, 3, 10 }, { 0, 4, 80641, 10 },
+        { 0, 4, 20, 3 }, { 0, 4, 20, 4001 }, { 1, 4, 21, 10 }, { 1, 0, 0, 0 },
+        { 2, 4, 20, 10 }, { 0xFFFFFFFF, 4, 20, 10 }, { 0, 0xFFFFFFFF, 0xFFFFFFFF, 0xFFFFFFFF },
+    };
+    for (size_t i = 0; i < sizeof improper / sizeof *improper; i++) {
+        const uint32_t *plan = improper[i];
+        uint64_t minute = 0x0123456789ABCDEF;
+        fill_places();
+        CHECK(maxeltu_report(plan[0], plan[1], plan[2], plan[3], 7, &minute, &places[0]) == MAXELTU_PLAN_IMPROPER);
+        CHECK(minute == 0x0123456789ABCDEF && untouched());
+    }
+    CHECK(report_is(MAXELTU_WELL_FORMED, 4, 21, 10, 3, 15, 2));
+    CHECK(report_is(MAXELTU_WELL_FORMED, 4, 21, 10, 4, 21, 3));
+    CHECK(report_is(MAXELTU_EVEN, 1, 20160, 1000, UINT32_MAX, UINT32_MAX * UINT64_C(20160), 1000));
+    CHECK(report_is(MAXELTU_WELL_FORMED, 1, 20160, 1000, UINT32_MAX, UINT32_MAX * UINT64_C(20160), 1000));
+    CHECK(report_is(MAXELTU_EVEN, 20160, 20160, 20160000, UINT32_MAX, UINT32_MAX, 1000));
+    end();
+}
+
+static struct maxeltu_pair pairs[MAXELTU_MAX_PAIRS + 8];
+
+static void fill_pairs(void) { memset(pairs, 0x5A, sizeof pairs); }
+
+static bool pairs_untouched_from(size_t first)
+{
+    for (size_t i = first; i < sizeof pairs / sizeof *pairs; i++)
+        if (pairs[i].gap != 0x5A5A || pairs[i].size != 0x5A5A)
+            return false;
+    return true;
+}
+
+static uint32_t read_cycle(const uint8_t *file, size_t length, size_t places_lent)
+{
+    fill_places();
+    fill_pairs();
+    return maxeltu_read_cycle(file, length, pairs, places_lent, &places[0]);
+}
+
+static bool read_refused(uint32_t refusal, const uint8_t *file, size_t length, size_t places_lent)
+{
+    return read_cycle(file, length, places_lent) == refusal && untouched() && pairs_untouched_from(0);
+}
+
+#define BYTES(...) (const uint8_t[]){ __VA_ARGS__ }, sizeof (const uint8_t[]){ __VA_ARGS__ }
+
+static void reading_cycles(void)
+{
+    begin("reading cycle files");
+    CHECK(read_cycle(BYTES(0, 3, 3, 0, 52, 0, 6, 1, 0, 53, 2, 0, 5), 3) == 0 && hold(1, 3));
+    CHECK(pairs[0].gap == 52 && pairs[0].size == 6 && pairs[1].gap == 53 && pairs[1].size == 6);
+    CHECK(pairs[2].gap == 53 && pairs[2].size == 5 && pairs_untouched_from(3));
+    CHECK(read_cycle(BYTES(0, 2, 3, 0xFF, 0xFF, 0, 0, 0), MAXELTU_MAX_PAIRS) == 0 && hold(1, 2));
+    CHECK(pairs[1].gap == 0xFFFF && pairs[1].size == 0 && pairs_untouched_from(2));
+    CHECK(read_refused(MAXELTU_FILE_LENGTH, BYTES(9), 512));
+    CHECK(read_refused(MAXELTU_FILE_LENGTH, (const uint8_t[]){ 0 }, 0, 512));
+    CHECK(read_refused(MAXELTU_COUNT, BYTES(0, 0), 0));
+    CHECK(read_refused(MAXELTU_COUNT, BYTES(2, 1), 0));
+    CHECK(read_refused(MAXELTU_COUNT, BYTES(2, 1, 3, 0, 5, 0, 2), sizeof pairs / sizeof *pairs));
+    CHECK(read_refused(MAXELTU_NO_ROOM, BYTES(0, 2), 1));
+    CHECK(read_refused(MAXELTU_NO_ROOM, BYTES(0, 1, 9), 0));
+    CHECK(read_refused(MAXELTU_FILE_LENGTH, BYTES(0, 2), 2));
+    CHECK(read_refused(MAXELTU_PAIR_MAP, BYTES(0, 1, 7, 0, 5, 0, 2), 512));
+    CHECK(read_refused(MAXELTU_PAIR_MAP, BYTES(0, 1, 1, 0, 5), 512));
+    CHECK(read_refused(MAXELTU_PAIR_MAP, BYTES(0, 1, 2), 512));
+    CHECK(read_refused(MAXELTU_PAIR_MAP, BYTES(0, 1, 0), 512));
+    CHECK(read_refused(MAXELTU_PAIR_MAP, BYTES(0, 2, 3, 0, 5, 0, 2, 0x80), 512));
+    CHECK(read_refused(MAXELTU_FILE_LENGTH, BYTES(0, 1, 3, 0, 5, 0), 512));
+    CHECK(read_refused(MAXELTU_FILE_LENGTH, BYTES(0, 2, 3, 0, 5, 0, 2), 512));
+    /* A cut field comes before one that should be left out. */
+    CHECK(read_refused(MAXELTU_FILE_LENGTH, BYTES(0, 2, 3, 0, 5, 0, 2, 3, 0, 5), 512));
+    CHECK(read_refused(MAXELTU_FIELD_REPEATED, BYTES(0, 2, 3, 0, 5, 0, 2, 3, 0, 5, 0, 3), 512));
+    CHECK(read_refused(MAXELTU_FIELD_REPEATED, BYTES(0, 2, 3, 0, 5, 0, 2, 2, 0, 2), 512));
+    CHECK(read_refused(MAXELTU_FIELD_REPEATED, BYTES(0, 2, 3, 0, 5, 0, 2, 1, 0, 5, 0), 512));
+    CHECK(read_refused(MAXELTU_FILE_LENGTH, BYTES(0, 1, 3, 0, 5, 0, 2, 0), 512));
+    end();
+}
+
+static void writing_cycles(void)
+{
+    begin("writing cycle files");
+    static const uint8_t wanted[] = { 0, 4, 3, 0, 5, 0, 3, 0, 2, 0, 2, 3, 1, 0, 0, 9 };
+    static const struct maxeltu_pair cycle[] = { { 5, 3 }, { 5, 3 }, { 5, 2 }, { 256, 9 } };
+    uint8_t file[MAXELTU_MAX_CYCLE_FILE + 8];
+    for (size_t room = 0; room < sizeof wanted + 3; room++) {
+        memset(file, 0x5A, sizeof file);
+        fill_places();
+        uint32_t answer = maxeltu_write_cycle(cycle, 4, file, room, &places[0]);
+        bool fits = room >= sizeof wanted;
+        CHECK(answer == (fits ? MAXELTU_OK : MAXELTU_NO_ROOM));
+        CHECK(fits ? hold(1, (unsigned)sizeof wanted) && memcmp(file, wanted, sizeof wanted) == 0 : untouched());
+        for (size_t i = fits ? sizeof wanted : 0; i < sizeof file; i++)
+            if (file[i] != 0x5A)
+                CHECK(!"a byte that the call should have left as it was");
+    }
+    fill_places();
+    fill_pairs();
+    CHECK(maxeltu_write_cycle(pairs, 0, file, 0, &places[0]) == MAXELTU_COUNT && untouched());
+    CHECK(maxeltu_write_cycle(pairs, MAXELTU_MAX_PAIRS + 1, file, 0, &places[0]) == MAXELTU_COUNT && untouched());
+    end();
+}
+
+static void longest_cycle(void)
+{
+    begin("512 pairs there and back");
+    uint8_t file[MAXELTU_MAX_CYCLE_FILE];
+    struct maxeltu_pair cycle[MAXELTU_MAX_PAIRS];
+    struct spec_file wide = spec_of(15, 8, 1, 1000, 1, 20160, 20000, 26, 1, 20160);
+    for (uint16_t i = 0; i < MAXELTU_MAX_PAIRS; i++)
+        cycle[i] = (struct maxeltu_pair){ .gap = (uint16_t)(100 + i % 7), .size = (uint16_t)(1 + i % 3) };
+    fill_places();
+    CHECK(maxeltu_write_cycle(cycle, MAXELTU_MAX_PAIRS, file, sizeof file, &places[0]) == 0);
+    CHECK(hold(1, MAXELTU_MAX_CYCLE_FILE));
+    CHECK(maxeltu_verdict(SPEC(wide), file, sizeof file) == 0);
+    CHECK(maxeltu_check_cycle(SPEC(wide), cycle, MAXELTU_MAX_PAIRS) == 0);
+    CHECK(read_cycle(file, sizeof file, MAXELTU_MAX_PAIRS) == 0 && hold(1, MAXELTU_MAX_PAIRS));
+    CHECK(memcmp(pairs, cycle, sizeof cycle) == 0 && pairs_untouched_from(MAXELTU_MAX_PAIRS));
+    fill_pairs();
+    CHECK(maxeltu_check_cycle(SPEC(wide), pairs, MAXELTU_MAX_PAIRS + 1) == MAXELTU_COUNT);
+    end();
+}
+
+int main(int argc, char **argv)
+{
+    if (argc > 1)
+        build = argv[1];
+    samples_of_plans();
+    samples_of_cycles();
+    refusals_of_specifications();
+    refusals_of_plans();
+    refusals_of_reports();
+    reading_cycles();
+    writing_cycles();
+    longest_cycle();
+    return failed_groups > 0;
+}

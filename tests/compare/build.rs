@@ -1,0 +1,13 @@
+//! Links the static library: MAXELTU_LIB names it, else target/staticlib/libmaxeltu.a of the repository.
+
+use std::path::PathBuf;
+
+fn main() {
+    let default = PathBuf::from(env!("CARGO_MANIFEST_DIR")).join("../../target/staticlib/libmaxeltu.a");
+    let archive = std::env::var_os("MAXELTU_LIB").map_or(default, PathBuf::from);
+    let folder = archive.parent().expect("a folder that holds libmaxeltu.a");
+    println!("cargo:rerun-if-env-changed=MAXELTU_LIB");
+    println!("cargo:rerun-if-changed={}", archive.display());
+    println!("cargo:rustc-link-search=native={}", folder.display());
+    println!("cargo:rustc-link-lib=static=maxeltu");
+}

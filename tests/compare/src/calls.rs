@@ -1,0 +1,442 @@
+//! Each call of the interface against the reference, on random inputs.
+
+use crate::generate::{self, Scale, FULL, MID, SMALL, TINY};
+use crate::group::{same, Runner, Verdict};
+use crate::library::{Library, Outcome};
+use crate::random::Random;
+use reference::feasibility::{self, Failure};
+use reference::schedule::{obeys, LAID_OUT};
+use reference::{cycle, even, file, plan, spec, verdict, Kind, Pair, Plan, Refusal, Spec};
+
+pub fn all(runner: &mut Runner) {
+    let cases = runner.cases;
+    runner.random("verdict", cases, &[0, 1, 2, 3, 4, 12, 13, 14, 15, 16, 17, 18, 19], verdict_case);
+    runner.random("consistency", cases, &[0, 1, 2, 3, 4, 7], consistency_case);
+    runner.random("minimum demand", cases, &[0, 1, 2, 3, 4, 5, 6], min_demand_case);
+    runner.random("maximum supply", cases, &[0, 1, 2, 3, 4, 5, 6], max_supply_case);
+    runner.random("test", cases, &[0, 1, 2, 3, 4, 5, 7, 8, 9], test_case);
+    runner.random("test at the limits", (cases / 16_000).max(1), &[], test_at_the_limits_case);
+    runner.random("even plan, every gap counted", cases, &[0, 1, 2, 3, 4, 10], even_case);
+    runner.random("even plan, size lists searched", cases / 4, &[0, 10], even_search_case);
+    runner.random("report", cases, &[0, 11], report_case);
+    runner.random("check cycle", cases, &[0, 1, 2, 3, 4, 12, 13, 14, 15, 16], check_case);
+    runner.random("read cycle", cases, &[0, 12, 17, 18, 19, 20], read_case);
+    runner.random("write cycle", cases, &[0, 12, 20], write_case);
+    runner.random("plans obey the rules", cases / 2, &[0, 1], obeying_case);
+}
+
+fn hex(bytes: &[u8]) -> String {
+    bytes.iter().map(|b| format!("{b:02x}")).collect()
+}
+
+/// Places as the reference leaves them: what it writes on success, else what they held.
+fn expected<const N: usize>(result: Result<[u64; N], Refusal>, before: [u32; N]) -> Outcome<N> {
+    match result {
+        Ok(values) => Outcome { answer: 0, places: values.map(|v| u32::try_from(v).expect("a 32-bit number")) },
+        Err(answer) => Outcome { answer, places: before },
+    }
+}
+
+fn verdict_case(random: &mut Random, library: &mut Library) -> Verdict {
+    let (spec, pairs) = generate::spec_and_cycle(random);
+    let spec_file = if random.once_in(30) { generate::spec_file(random) } else { spec::write(&spec) };
+    let spec_file = if random.once_in(4) { generate::seldom_damaged(random, spec_file) } else { spec_file };
+    let cycle_file = match file::write(&pairs, usize::MAX) {
+        Ok(file) if random.once_in(10) => generate::damaged(random, file),
+        Ok(file) if random.once_in(10) => stray_map(random, file),
+        Ok(file) => file,
+        Err(_) => generate::cycle_file(random),
+    };
+    let answer = verdict(&spec_file, &cycle_file);
+    same(answer, library.verdict(&spec_file, &cycle_file), answer, || {
+        format!("spec {} cycle {}", hex(&spec_file), hex(&cycle_file))
+    })
+}
+
+fn consistency_case(random: &mut Random, library: &mut Library) -> Verdict {
+    let file = generate::spec_file(random);
+    let before = random.places();
+    let wanted = match spec::read(&file).map(|spec| feasibility::failing_condition(&spec)) {
+        Err(answer) => Outcome { answer, places: before },
+        Ok(None) => Outcome { answer: 0, places: before },
+        Ok(Some(condition)) => Outcome { answer: 7, places: [condition] },
+    };
+    same(wanted.answer, library.consistency(&file, before), wanted, || hex(&file))
+}
+
+/// A number of reports near the ends of what has a schedule, or any 32-bit number. `wraps` is a factor whose product with k
+/// may pass 2^32.
+fn some_k(random: &mut Random, ends: [u64; 2], wraps: u64) -> u32 {
+    let k = match random.below(8) {
+        0 => random.of_any_length(32),
+        1 => random.pick(&[0, 1, 20_160, 20_161, u64::from(u32::MAX)]),
+        2 => (1 << 32) / wraps + random.below(ends[1] + 2),
+        3 => random.near(ends[0], 1, u64::MAX >> 1),
+        4 => random.near(ends[1], 1, u64::MAX >> 1),
+        _ => random.between(ends[0].min(ends[1]), ends[1].max(ends[0])),
+    };
+    k.min(u64::from(u32::MAX)) as u32
+}
+
+fn min_demand_case(random: &mut Random, library: &mut Library) -> Verdict {
+    let file = generate::spec_file(random);
+    let accepted = spec::read(&file);
+    let (l, p) = accepted.as_ref().ok().and_then(|spec| spec.demand).unwrap_or((1, 1));
+    let (dmax, smin) = accepted.as_ref().map_or((1, 1), |spec| (spec.size.1, spec.gap.0));
+    let k = some_k(random, [l.div_ceil(dmax), p / smin], smin.max(2));
+    let before = random.places();
+    let made = accepted.and_then(|spec| feasibility::min_demand(&spec, k.into()));
+    let wanted = expected(made.map(|(plan, required)| [plan.period, plan.total, required]), before);
+    same(wanted.answer, library.min_demand(&file, k, before), wanted, || format!("{} k {k}", hex(&file)))
+}
+
+fn max_supply_case(random: &mut Random, library: &mut Library) -> Verdict {
+    let file = generate::spec_file(random);
+    let accepted = spec::read(&file);
+    let (b, r) = accepted.as_ref().ok().and_then(|spec| spec.supply).unwrap_or((1, 1));
+    let (dmin, smax) = accepted.as_ref().map_or((1, 1), |spec| (spec.size.0, spec.gap.1));
+    let k = some_k(random, [r.div_ceil(smax), b / dmin], smax.max(2));
+    let before = random.places();
+    let made = accepted.and_then(|spec| feasibility::max_supply(&spec, k.into(), LAID_OUT));
+    let wanted = expected(made.map(|(plan, available)| [plan.period, plan.total, available]), before);
+    same(wanted.answer, library.max_supply(&file, k, before), wanted, || format!("{} k {k}", hex(&file)))
+}
+
+/// About how many reports the reference's test looks at: the numbers of reports that it tries, times the reports of one.
+fn steps_of_test(spec: &Spec) -> u64 {
+    let (Some((b, r)), Some((l, p))) = (spec.supply, spec.demand) else { return 0 };
+    if feasibility::failing_condition(spec).is_some() {
+        return 0;
+    }
+    let (first, last) =
+        if r >= p { (l.div_ceil(spec.size.1), p / spec.gap.0) } else { (r.div_ceil(spec.gap.1), b / spec.size.0) };
+    let k = (first + last) / 2 + 1;
+    let reports = if r >= p { r * k / (k * spec.gap.1).min(p) } else { 20 * (k + p * k / (k * spec.gap.0).max(r)) };
+    (last + 1).saturating_sub(first) * (reports + 1)
+}
+
+/// The reference tries every k and every start in turn, so large specifications are drawn seldom.
+fn spec_for_test(random: &mut Random) -> Spec {
+    let most_steps = match random.below(20_000) {
+        0 => 100_000_000,
+        1..=10 => 10_000_000,
+        11..=400 => 500_000,
+        _ => 20_000,
+    };
+    loop {
+        let scale = random.pick(&[TINY, SMALL, SMALL, MID, MID, FULL, FULL]);
+        let mut spec = generate::near_spec_with_rates(random, scale);
+        if random.once_in(2) {
+            make_consistent(random, &mut spec, scale);
+        }
+        if steps_of_test(&spec) <= most_steps {
+            return spec;
+        }
+    }
+}
+
+/// Moves what makes a specification inconsistent, so that the test itself is reached.
+fn make_consistent(random: &mut Random, spec: &mut Spec, scale: Scale) {
+    spec.duration = None;
+    let (Some((b, r)), Some((l, p))) = (&mut spec.supply, &mut spec.demand) else { return };
+    *p = (*p).max(spec.gap.1);
+    let least_budget = spec.size.1.max(spec.size.0 * (*r / spec.gap.1)).max((*l * *r).div_ceil(*p));
+    *b = if random.once_in(2) { least_budget } else { random.near(least_budget + 2, 2, scale.records) };
+    *b = (*b).clamp(1, 20_000);
+    *l = (*l).min(spec.size.1 * (*p / spec.gap.0)).max(1);
+}
+
+fn test_case(random: &mut Random, library: &mut Library) -> Verdict {
+    let file = match random.below(40) {
+        0 => {
+            let near = generate::near_spec(random, TINY);
+            spec::write(&near)
+        }
+        1 => {
+            let near = generate::near_spec(random, SMALL);
+            generate::damaged(random, spec::write(&near))
+        }
+        _ => spec::write(&spec_for_test(random)),
+    };
+    test_of(&file, random, library)
+}
+
+/// Rates, ranges and numbers of reports all near their limits. The reference looks at up to 200 million reports here.
+fn test_at_the_limits_case(random: &mut Random, library: &mut Library) -> Verdict {
+    let longest = |random: &mut Random| random.pick(&[20_160, 20_159, 20_000, 10_081, 10_080]);
+    let smallest = random.pick(&[1, 1, 2]);
+    let shortest = random.pick(&[1, 1, 2, 3]);
+    let mut spec = Spec {
+        size: (smallest, random.pick(&[smallest, 2, 7, 999, 1_000])),
+        gap: (shortest, random.pick(&[3, 4, 9, 10_080, 20_160])),
+        supply: Some((random.between(10_000, 20_000), longest(random))),
+        demand: Some((random.between(1, 20_000), longest(random))),
+        duration: None,
+    };
+    if random.once_in(3) {
+        // The other branch, with fewer k: by report it is slower.
+        spec.size.0 = 10;
+        spec.size.1 = spec.size.1.max(10);
+        spec.supply = spec.supply.map(|(b, r)| (b, r / 2));
+    }
+    make_consistent(random, &mut spec, FULL);
+    test_of(&spec::write(&spec), random, library)
+}
+
+fn test_of(file: &[u8], random: &mut Random, library: &mut Library) -> Verdict {
+    let before: [u32; 5] = random.places();
+    let wanted = match spec::read(file).map(|spec| feasibility::test(&spec, 2_000)) {
+        Err(answer) | Ok(Err(Failure::Refused(answer))) => Outcome { answer, places: before },
+        Ok(Err(Failure::Inconsistent(condition))) => {
+            Outcome { answer: 7, places: [condition, before[1], before[2], before[3], before[4]] }
+        }
+        Ok(Ok((plan, supply))) => {
+            Outcome { answer: 0, places: [before[0], plan.k as u32, plan.period as u32, plan.total as u32, supply as u32] }
+        }
+    };
+    same(wanted.answer, library.test(file, before), wanted, || hex(file))
+}
+
+fn even_outcome(spec: Result<Spec, Refusal>, works: impl Fn(&Spec, u64) -> bool, before: [u32; 3]) -> Outcome<3> {
+    let made = spec.and_then(|spec| even::even_plan(&spec, works));
+    expected(made.map(|plan| [plan.k, plan.period, plan.total]), before)
+}
+
+fn even_case(random: &mut Random, library: &mut Library) -> Verdict {
+    let file = generate::spec_file(random);
+    let before = random.places();
+    let wanted = even_outcome(spec::read(&file), even::counts_fit, before);
+    same(wanted.answer, library.even_plan(&file, before), wanted, || hex(&file))
+}
+
+/// A specification small enough that every list of sizes can be tried: at most 3 sizes (seldom 4), and few reports in a window.
+fn spec_for_search(random: &mut Random) -> Spec {
+    let (sizes, reports) = if random.once_in(50) { (4, 8) } else { (3, 7) };
+    loop {
+        let mut spec = generate::near_spec(random, TINY);
+        spec.size.1 = spec.size.1.min(spec.size.0 + sizes - 1);
+        let window = spec.supply.map_or(0, |s| s.1).max(spec.demand.map_or(0, |d| d.1));
+        if window / spec.gap.0 <= reports {
+            return spec;
+        }
+    }
+}
+
+fn even_search_case(random: &mut Random, library: &mut Library) -> Verdict {
+    let spec = spec_for_search(random);
+    let file = spec::write(&spec);
+    let before = random.places();
+    let wanted = even_outcome(Ok(spec.clone()), even::list_exists, before);
+    for gap in spec.gap.0..=spec.gap.1 {
+        if even::list_exists(&spec, gap) != even::counts_fit(&spec, gap) {
+            return Err(format!("at gap {gap} the search and the count differ on {}", hex(&file)));
+        }
+    }
+    same(wanted.answer, library.even_plan(&file, before), wanted, || hex(&file))
+}
+
+/// A plan that is proper, or nearly.
+fn some_plan(random: &mut Random) -> (u32, [u64; 3]) {
+    let kind = random.pick(&[0, 0, 0, 1, 1, 1, 1, 1, 1, 1, 1, 2]);
+    let kind = if kind == 2 { random.pick(&[2, 3, 256, u32::MAX]) } else { kind };
+    let most_k = random.pick(&[1, 4, 12, 100, 20_160]);
+    let k = random.between(1, most_k);
+    let period = match random.below(4) {
+        0 => random.near(k, 1, u64::MAX >> 1),
+        1 => random.near(20_160 * k, 1, u64::MAX >> 1),
+        2 => random.between(k, 12 * k),
+        _ => random.between(k, 20_160 * k),
+    };
+    let period = if kind == 1 && !random.once_in(6) { period - period % k } else { period };
+    let total = match random.below(4) {
+        0 => random.near(k, 1, u64::MAX >> 1),
+        1 => random.near(1_000 * k, 1, u64::MAX >> 1),
+        _ => random.between(k, 1_000 * k),
+    };
+    let k = if random.once_in(20) { random.pick(&[0, 20_161, u64::from(u32::MAX)]) } else { k };
+    if random.once_in(40) {
+        return (kind, std::array::from_fn(|_| random.of_any_length(32)));
+    }
+    (kind, [k, period, total])
+}
+
+fn report_case(random: &mut Random, library: &mut Library) -> Verdict {
+    let (kind, [k, period, total]) = some_plan(random);
+    let i = match random.below(6) {
+        0 => random.pick(&[0, 1, u64::from(u32::MAX) - 1, u64::from(u32::MAX)]),
+        // Around the join of two periods.
+        1 => {
+            let periods = random.of_any_length(16);
+            random.near(k * periods, 2, u32::MAX.into())
+        }
+        2 | 3 => random.of_any_length(12),
+        _ => random.of_any_length(32),
+    };
+    let before = random.places();
+    let made = match kind {
+        0 => walked(Plan { kind: Kind::WellFormed, k, period, total }, i),
+        1 => walked(Plan { kind: Kind::Even, k, period, total }, i),
+        _ => Err(11),
+    };
+    let wanted = expected(made.map(|(minute, size)| [minute >> 32, minute & 0xFFFF_FFFF, size]), before);
+    let numbers = [k as u32, period as u32, total as u32];
+    same(wanted.answer, library.report(kind, numbers, i as u32, before), wanted, || {
+        format!("kind {kind} k {k} period {period} total {total} i {i}")
+    })
+}
+
+/// Report by report where i is small, and by whole periods; both must agree.
+fn walked(plan: plan::Plan, i: u64) -> Result<(u64, u64), Refusal> {
+    let made = plan.report(i);
+    if i < 4_096 {
+        assert_eq!(made, plan.report_by_walk(i), "two ways of the reference");
+    }
+    made
+}
+
+fn check_case(random: &mut Random, library: &mut Library) -> Verdict {
+    let (spec, pairs) = generate::spec_and_cycle(random);
+    let file = if random.once_in(40) { generate::spec_file(random) } else { spec::write(&spec) };
+    let answer = spec::read(&file).map_or_else(|refusal| refusal, |spec| cycle::check(&spec, &pairs));
+    same(answer, library.check_cycle(&file, &pairs), answer, || format!("spec {} pairs {pairs:?}", hex(&file)))
+}
+
+fn some_pair(random: &mut Random) -> Pair {
+    Pair { gap: random.next() as u16, size: random.next() as u16 }
+}
+
+fn read_case(random: &mut Random, library: &mut Library) -> Verdict {
+    let sound = generate::cycle_file(random);
+    let file = match random.below(3) {
+        0 => generate::damaged(random, sound),
+        1 => stray_map(random, sound),
+        _ => sound,
+    };
+    let count = file.get(..2).map_or(0, |b| u64::from(b[0]) * 256 + u64::from(b[1])).min(700);
+    let places = match random.below(4) {
+        0 => random.below(count + 2),
+        1 => count + random.below(3),
+        _ => 512 + random.below(4),
+    };
+    let before: Vec<Pair> = (0..places).map(|_| some_pair(random)).collect();
+    let held = random.places::<1>();
+    let made = file::read(&file, before.len());
+    let mut wanted_pairs = before.clone();
+    if let Ok(pairs) = &made {
+        wanted_pairs[..pairs.len()].copy_from_slice(pairs);
+    }
+    let wanted = expected(made.map(|pairs| [pairs.len() as u64]), held);
+    let got = library.read_cycle(&file, &before, held[0]);
+    same(wanted.answer, got, (wanted, wanted_pairs), || format!("{} places {places}", hex(&file)))
+}
+
+/// Spoils one pair of a sound file: its map byte, a field that should be left out, or a cut just there.
+fn stray_map(random: &mut Random, mut file: Vec<u8>) -> Vec<u8> {
+    let (mut at, mut before) = (2, None);
+    let pairs = u64::from(file[0]) * 256 + u64::from(file[1]);
+    for _ in 0..random.below(pairs + 1) {
+        before = Some(at);
+        at += 1 + 2 * usize::from(file[at] & 1) + usize::from(file[at] & 2);
+    }
+    if at >= file.len() {
+        return file;
+    }
+    match (random.below(5), before) {
+        (0, _) => file[at] = random.next() as u8,
+        (1, _) => file[at] ^= 1 << random.below(8),
+        (2, _) => file.truncate(at + random.below(5) as usize),
+        (_, Some(before)) if file[before] == 3 => repeat_field(random, &mut file, before, at),
+        _ => file[at] &= 3 & random.next() as u8,
+    }
+    file
+}
+
+/// Puts a field of the full pair `before` once more into the next pair, at `at`, where it should be left out.
+fn repeat_field(random: &mut Random, file: &mut Vec<u8>, before: usize, at: usize) {
+    let map = file[at];
+    let (field, to) = if random.once_in(2) { (1, at + 1) } else { (2, at + 1 + 2 * usize::from(map & 1)) };
+    if map & field == 0 {
+        let from = before + 2 * usize::from(field) - 1;
+        let repeated = [file[from], file[from + 1]];
+        file[at] |= field;
+        file.splice(to..to, repeated);
+    }
+}
+
+fn write_case(random: &mut Random, library: &mut Library) -> Verdict {
+    let pairs = generate::any_pairs(random);
+    let length = file::write(&pairs, usize::MAX).map_or(2, |file| file.len()) as u64;
+    let room = match random.below(4) {
+        0 => random.below(length),
+        1 => length - 1,
+        2 => length,
+        _ => length + random.below(80),
+    };
+    let before: Vec<u8> = (0..room).map(|_| random.next() as u8).collect();
+    let held = random.places::<1>();
+    let made = file::write(&pairs, before.len());
+    let mut wanted_bytes = before.clone();
+    if let Ok(file) = &made {
+        wanted_bytes[..file.len()].copy_from_slice(file);
+        assert_eq!(file::read(file, 512).as_ref(), Ok(&pairs), "the reference reads what it writes");
+    }
+    let wanted = expected(made.map(|file| [file.len() as u64]), held);
+    let got = library.write_cycle(&pairs, &before, held[0]);
+    same(wanted.answer, got, (wanted, wanted_bytes), || format!("{pairs:?} room {room}"))
+}
+
+/// The plans that the library yields run by the four rules. It counts as 0 where the test passes one, 1 where only an even plan
+/// exists, 2 where neither.
+fn obeying_case(random: &mut Random, library: &mut Library) -> Verdict {
+    let scale = random.pick(&[TINY, SMALL, SMALL, MID]);
+    let mut spec = generate::near_spec_with_rates(random, scale);
+    if random.once_in(2) {
+        make_consistent(random, &mut spec, scale);
+    }
+    let file = spec::write(&spec);
+    let tested = library.test(&file, [0; 5]);
+    let [_, k, period, total, _] = tested.places.map(u64::from);
+    if tested.answer == 0 && !obeys(&spec, &Plan { kind: Kind::WellFormed, k, period, total }) {
+        return Err(format!("the plan that the test passed breaks a rule: {}", hex(&file)));
+    }
+    let even = library.even_plan(&file, [0; 3]);
+    let [k, period, total] = even.places.map(u64::from);
+    if even.answer == 0 && !obeys(&spec, &Plan { kind: Kind::Even, k, period, total }) {
+        return Err(format!("the even plan breaks a rule: {}", hex(&file)));
+    }
+    Ok(match (tested.answer, even.answer) {
+        (0, _) => 0,
+        (_, 0) => 1,
+        _ => 2,
+    })
+}
+
+/// Tests of the reference itself: its literal way and its way for large numbers say the same.
+pub fn reference_itself(runner: &mut Runner) {
+    runner.random("reference: by minute and by report", runner.cases / 10, &[], |random, _| {
+        let scale = random.pick(&[TINY, SMALL, MID]);
+        let spec = generate::near_spec(random, scale);
+        let count = random.between(1, 20) as usize;
+        let pairs = generate::cycle_in_range(random, &spec, count);
+        let window = random.between(1, scale.window);
+        let run = cycle::Cycle(&pairs);
+        let by_minute = reference::schedule::least_and_most_by_minute(&run, window);
+        same(0, reference::schedule::least_and_most_by_report(&run, window), by_minute, || format!("{pairs:?} {window}"))
+    });
+    runner.random("reference: whole check by minute, long rounds", 40, &[], |random, _| {
+        let mut spec = generate::near_spec(random, FULL);
+        let most = random.between(20, 120) as usize;
+        let pairs = generate::cycle_in_range(random, &spec, most);
+        spec.size = (1, 1_000);
+        let by_minute = cycle::check_laid_out(&spec, &pairs, u64::MAX);
+        same(by_minute, cycle::check_laid_out(&spec, &pairs, 0), by_minute, || format!("{spec:?} {pairs:?}"))
+    });
+    runner.random("reference: maximum supply by minute", runner.cases / 20, &[0, 6], |random, _| {
+        let scale = random.pick(&[TINY, SMALL, MID]);
+        let spec = generate::near_spec_with_rates(random, scale);
+        let k = random.between(1, 30);
+        let by_minute = feasibility::max_supply(&spec, k, u64::MAX);
+        let answer = by_minute.map_or_else(|refusal| refusal, |_| 0);
+        same(answer, feasibility::max_supply(&spec, k, 0), by_minute, || format!("{spec:?} {k}"))
+    });
+}

@@ -1,0 +1,81 @@
+//! Every specification with small numbers, and for each of them every short cycle: nothing here is left to chance.
+
+use crate::group::{same, Runner, Verdict};
+use crate::library::Library;
+use reference::feasibility::{self, Failure};
+use reference::schedule::LAID_OUT;
+use reference::{cycle, even, spec, Pair, Spec};
+
+/// Sizes and gaps are 1 to this, rates and their windows 1 to `RATE`.
+const RANGE: u64 = 3;
+const RATE: u64 = 8;
+
+/// The ordered pairs of 1 to `RANGE`.
+const RANGES: [(u64, u64); 6] = [(1, 1), (1, 2), (1, 3), (2, 2), (2, 3), (3, 3)];
+
+/// A rate from its number: 0 is the absent one.
+fn rate(number: u64) -> Option<(u64, u64)> {
+    (number > 0).then(|| ((number - 1) / RATE + 1, (number - 1) % RATE + 1))
+}
+
+const RATES: u64 = RATE * RATE + 1;
+const SPECIFICATIONS: u64 = 6 * 6 * RATES * RATES;
+
+fn specification(mut number: u64) -> Spec {
+    let mut digit = |base: u64| {
+        let digit = number % base;
+        number /= base;
+        digit
+    };
+    let (size, gap) = (RANGES[digit(6) as usize], RANGES[digit(6) as usize]);
+    Spec { size, gap, supply: rate(digit(RATES)), demand: rate(digit(RATES)), duration: None }
+}
+
+pub fn all(runner: &mut Runner) {
+    runner.every("every small specification: test", SPECIFICATIONS, test_case);
+    runner.every("every small specification: even plan, size lists searched", SPECIFICATIONS, even_case);
+    runner.every("every small specification: every cycle of 1 or 2 pairs", SPECIFICATIONS, cycles_case);
+}
+
+fn test_case(number: u64, library: &mut Library) -> Verdict {
+    let spec = specification(number);
+    let got = library.test(&spec::write(&spec), [0; 5]);
+    let (answer, places) = match feasibility::test(&spec, LAID_OUT) {
+        Ok((plan, supply)) => (0, [0, plan.k, plan.period, plan.total, supply]),
+        Err(Failure::Inconsistent(condition)) => (7, [condition.into(), 0, 0, 0, 0]),
+        Err(Failure::Refused(answer)) => (answer, [0; 5]),
+    };
+    same(answer, (got.answer, got.places.map(u64::from)), (answer, places), || format!("{spec:?}"))
+}
+
+fn even_case(number: u64, library: &mut Library) -> Verdict {
+    let spec = specification(number);
+    let got = library.even_plan(&spec::write(&spec), [0; 3]);
+    let (answer, places) = match even::even_plan(&spec, even::list_exists) {
+        Ok(plan) => (0, [plan.k, plan.period, plan.total]),
+        Err(answer) => (answer, [0; 3]),
+    };
+    same(answer, (got.answer, got.places.map(u64::from)), (answer, places), || format!("{spec:?}"))
+}
+
+/// A pair from its number, of gaps and sizes 1 to `RANGE`.
+fn pair(number: u64) -> Pair {
+    Pair { gap: (number / RANGE + 1) as u16, size: (number % RANGE + 1) as u16 }
+}
+
+fn cycles_case(number: u64, library: &mut Library) -> Verdict {
+    let spec = specification(number);
+    let file = spec::write(&spec);
+    let mut obeying = 0;
+    for first in 0..RANGE * RANGE {
+        for second in 0..=RANGE * RANGE {
+            // The last number of the second pair stands for none.
+            let both = [pair(first), pair(second)];
+            let pairs = if second == RANGE * RANGE { &both[..1] } else { &both[..] };
+            let answer = cycle::check(&spec, pairs);
+            same(answer, library.check_cycle(&file, pairs), answer, || format!("{spec:?} {pairs:?}"))?;
+            obeying += u32::from(answer == 0);
+        }
+    }
+    Ok(u32::from(obeying == 0))
+}

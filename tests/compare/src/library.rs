@@ -1,0 +1,128 @@
+//! The ten calls of include/maxeltu.h, each wrapped so that its answer can be compared whole: every place that it was lent is
+//! handed back with what it holds afterwards, and what it should only have read is looked at again.
+
+use crate::fence::Fence;
+use reference::Pair;
+
+#[rustfmt::skip]
+extern "C" {
+    fn maxeltu_verdict(spec: *const u8, spec_len: usize, cycle: *const u8, cycle_len: usize) -> u32;
+    fn maxeltu_consistency(spec: *const u8, spec_len: usize, condition: *mut u32) -> u32;
+    fn maxeltu_min_demand(spec: *const u8, spec_len: usize, k: u32, period: *mut u32, total: *mut u32, required: *mut u32) -> u32;
+    fn maxeltu_max_supply(spec: *const u8, spec_len: usize, k: u32, period: *mut u32, total: *mut u32, available: *mut u32) -> u32;
+    fn maxeltu_test(spec: *const u8, spec_len: usize, condition: *mut u32, k: *mut u32, period: *mut u32, total: *mut u32, supply: *mut u32) -> u32;
+    fn maxeltu_even_plan(spec: *const u8, spec_len: usize, k: *mut u32, period: *mut u32, total: *mut u32) -> u32;
+    fn maxeltu_report(kind: u32, k: u32, period: u32, total: u32, i: u32, minute: *mut u64, size: *mut u32) -> u32;
+    fn maxeltu_check_cycle(spec: *const u8, spec_len: usize, pairs: *const Pair, count: usize) -> u32;
+    fn maxeltu_read_cycle(file: *const u8, file_len: usize, pairs: *mut Pair, places: usize, count: *mut u32) -> u32;
+    fn maxeltu_write_cycle(pairs: *const Pair, count: usize, file: *mut u8, room: usize, written: *mut u32) -> u32;
+}
+
+/// What a call answered, and what its places for numbers hold afterwards.
+#[derive(Clone, Copy, Debug, PartialEq, Eq)]
+pub struct Outcome<const N: usize> {
+    pub answer: u32,
+    pub places: [u32; N],
+}
+
+/// The memory that one thread lends to the library.
+pub struct Library {
+    spec: Fence<u8>,
+    file: Fence<u8>,
+    pairs: Fence<Pair>,
+}
+
+/// Room for the longest slices that the tests lend, in pages.
+const PAGES: usize = 20;
+
+// SAFETY, for every call below: each pointer leads to as many items as the length beside it says, or to one number; none is
+// null, and no two overlap.
+impl Library {
+    pub fn new() -> Library {
+        Library { spec: Fence::new(PAGES), file: Fence::new(PAGES), pairs: Fence::new(PAGES) }
+    }
+
+    /// Lends the specification, and sees that the call left it as it was.
+    fn with_spec(&mut self, spec: &[u8], call: impl FnOnce(*const u8, usize) -> u32) -> u32 {
+        let lent = self.spec.lend(spec);
+        let answer = call(lent, spec.len());
+        assert_eq!(self.spec.held(spec.len()), spec, "a specification that was only to be read");
+        answer
+    }
+
+    pub fn verdict(&mut self, spec: &[u8], cycle: &[u8]) -> u32 {
+        let file = self.file.lend(cycle);
+        let answer = self.with_spec(spec, |at, len| unsafe { maxeltu_verdict(at, len, file, cycle.len()) });
+        assert_eq!(self.file.held(cycle.len()), cycle, "a cycle file that was only to be read");
+        answer
+    }
+
+    pub fn consistency(&mut self, spec: &[u8], before: [u32; 1]) -> Outcome<1> {
+        let [mut condition] = before;
+        let answer = self.with_spec(spec, |at, len| unsafe { maxeltu_consistency(at, len, &mut condition) });
+        Outcome { answer, places: [condition] }
+    }
+
+    pub fn min_demand(&mut self, spec: &[u8], k: u32, before: [u32; 3]) -> Outcome<3> {
+        let [mut period, mut total, mut required] = before;
+        let answer =
+            self.with_spec(spec, |at, len| unsafe { maxeltu_min_demand(at, len, k, &mut period, &mut total, &mut required) });
+        Outcome { answer, places: [period, total, required] }
+    }
+
+    pub fn max_supply(&mut self, spec: &[u8], k: u32, before: [u32; 3]) -> Outcome<3> {
+        let [mut period, mut total, mut available] = before;
+        let answer =
+            self.with_spec(spec, |at, len| unsafe { maxeltu_max_supply(at, len, k, &mut period, &mut total, &mut available) });
+        Outcome { answer, places: [period, total, available] }
+    }
+
+    pub fn test(&mut self, spec: &[u8], before: [u32; 5]) -> Outcome<5> {
+        let [mut condition, mut k, mut period, mut total, mut supply] = before;
+        let answer = self.with_spec(spec, |at, len| unsafe {
+            maxeltu_test(at, len, &mut condition, &mut k, &mut period, &mut total, &mut supply)
+        });
+        Outcome { answer, places: [condition, k, period, total, supply] }
+    }
+
+    pub fn even_plan(&mut self, spec: &[u8], before: [u32; 3]) -> Outcome<3> {
+        let [mut k, mut period, mut total] = before;
+        let answer = self.with_spec(spec, |at, len| unsafe { maxeltu_even_plan(at, len, &mut k, &mut period, &mut total) });
+        Outcome { answer, places: [k, period, total] }
+    }
+
+    /// The places are the high and the low half of the minute, and the size.
+    pub fn report(&mut self, kind: u32, [k, period, total]: [u32; 3], i: u32, before: [u32; 3]) -> Outcome<3> {
+        let mut minute = u64::from(before[0]) << 32 | u64::from(before[1]);
+        let mut size = before[2];
+        let answer = unsafe { maxeltu_report(kind, k, period, total, i, &mut minute, &mut size) };
+        Outcome { answer, places: [(minute >> 32) as u32, minute as u32, size] }
+    }
+
+    pub fn check_cycle(&mut self, spec: &[u8], pairs: &[Pair]) -> u32 {
+        let list = self.pairs.lend(pairs);
+        let answer = self.with_spec(spec, |at, len| unsafe { maxeltu_check_cycle(at, len, list, pairs.len()) });
+        assert_eq!(self.pairs.held(pairs.len()), pairs, "a cycle that was only to be read");
+        answer
+    }
+
+    /// The places hold `before`; they come back as the call leaves them, beside the count.
+    pub fn read_cycle(&mut self, file: &[u8], before: &[Pair], count: u32) -> (Outcome<1>, Vec<Pair>) {
+        let list = self.pairs.lend(before);
+        let mut count = count;
+        let lent = self.file.lend(file);
+        let answer = unsafe { maxeltu_read_cycle(lent, file.len(), list, before.len(), &mut count) };
+        assert_eq!(self.file.held(file.len()), file, "a cycle file that was only to be read");
+        (Outcome { answer, places: [count] }, self.pairs.held(before.len()).to_vec())
+    }
+
+    /// The bytes hold `before`; they come back as the call leaves them, beside the number written.
+    pub fn write_cycle(&mut self, pairs: &[Pair], before: &[u8], written: u32) -> (Outcome<1>, Vec<u8>) {
+        let list = self.pairs.lend(pairs);
+        let mut written = written;
+        let lent = self.file.lend(before);
+        let answer = unsafe { maxeltu_write_cycle(list, pairs.len(), lent, before.len(), &mut written) };
+        assert_eq!(self.pairs.held(pairs.len()), pairs, "a cycle that was only to be read");
+        (Outcome { answer, places: [written] }, self.file.held(before.len()).to_vec())
+    }
+}

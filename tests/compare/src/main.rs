@@ -1,0 +1,42 @@
+//! Compares the static library with the reference, call by call. One line a group; the last says how many passed.
+//!
+//! MAXELTU_SEED and MAXELTU_RUNS in the environment change the seed (1) and the cases of each call (200,000).
+//! `compare` alone runs all groups of the library; `compare evenplan PROGRAM` those of the program.
+
+mod calls;
+mod exhaustive;
+mod fence;
+mod generate;
+mod group;
+mod library;
+mod program;
+mod random;
+mod samples;
+
+use group::Runner;
+
+fn number_from_environment(name: &str, default: u64) -> u64 {
+    match std::env::var(name) {
+        Ok(text) => text.parse().unwrap_or_else(|_| panic!("{name} is not a number: {text}")),
+        Err(_) => default,
+    }
+}
+
+fn main() {
+    let seed = number_from_environment("MAXELTU_SEED", 1);
+    let cases = number_from_environment("MAXELTU_RUNS", 200_000);
+    let mut runner = Runner { seed, cases, passed: 0, failed: 0 };
+    let arguments: Vec<String> = std::env::args().skip(1).collect();
+    match arguments.iter().map(String::as_str).collect::<Vec<_>>()[..] {
+        [] => {
+            samples::all(&mut runner);
+            calls::reference_itself(&mut runner);
+            exhaustive::all(&mut runner);
+            calls::all(&mut runner);
+        }
+        ["evenplan", program] => program::all(&mut runner, program.as_ref()),
+        _ => panic!("usage: compare [evenplan PROGRAM]"),
+    }
+    println!("{} passed, {} failed", runner.passed, runner.failed);
+    std::process::exit(i32::from(runner.failed > 0));
+}

@@ -1,0 +1,69 @@
+//! The program evenplan, as a process: "reads a specification file from standard input" and prints the even plan whole, or one
+//! line that says which refusal it met.
+
+use crate::generate;
+use crate::group::{same, Runner};
+use crate::random::Random;
+use reference::{even, spec, Plan, Refusal};
+use std::fmt::Write as _;
+use std::io::Write as _;
+use std::path::Path;
+use std::process::{Command, Stdio};
+
+pub fn all(runner: &mut Runner, program: &Path) {
+    let sample: &[u8] = &[0x0F, 0, 2, 0, 3, 0, 5, 0, 5, 0, 0x0F, 0, 0x1A, 0, 0x0A, 0, 0x14];
+    let printed = "gap 5 cycle 4 total 10\n0 0 2\n1 5 3\n2 10 2\n3 15 3\n";
+    let says = |file: &[u8], text: &str| prints(program, file).as_deref() == Ok(text);
+    runner.fixed(
+        "evenplan on samples",
+        &[
+            ("B with 15".into(), says(sample, printed)),
+            ("B with 14".into(), says(&[&sample[..9], &[0, 14], &sample[11..]].concat(), "refused 10\n")),
+            ("no bytes".into(), says(&[], "refused 1\n")),
+            ("one byte over".into(), says(&[sample, &[0]].concat(), "refused 2\n")),
+            ("a byte short".into(), says(&sample[..16], "refused 2\n")),
+        ],
+    );
+    runner.random("evenplan on random specifications", (runner.cases / 200).max(1), &[], |random, _| {
+        let file = input(random);
+        let (answer, wanted) = text(&file);
+        same(answer, prints(program, &file)?, wanted, || format!("{file:02x?}"))
+    });
+}
+
+/// A specification file; now and then far longer than any buffer.
+fn input(random: &mut Random) -> Vec<u8> {
+    let mut file = generate::spec_file(random);
+    if random.once_in(40) {
+        let over = random.between(1, 100_000) as usize;
+        file.resize(file.len() + over, 0);
+    }
+    file
+}
+
+fn prints(program: &Path, input: &[u8]) -> Result<String, String> {
+    let problem = |error: std::io::Error| format!("{}: {error}", program.display());
+    let mut process = Command::new(program).stdin(Stdio::piped()).stdout(Stdio::piped()).spawn().map_err(problem)?;
+    // A program that has seen enough may close its input early: only what it prints counts.
+    let _ = process.stdin.take().expect("a pipe").write_all(input);
+    let output = process.wait_with_output().map_err(problem)?;
+    String::from_utf8(output.stdout).map_err(|error| error.to_string())
+}
+
+/// The answer and what the program should print.
+fn text(file: &[u8]) -> (Refusal, String) {
+    match spec::read(file).and_then(|spec| even::even_plan(&spec, even::counts_fit)) {
+        Ok(plan) => (0, plan_text(&plan)),
+        Err(refusal) => (refusal, format!("refused {refusal}\n")),
+    }
+}
+
+/// "First line s, k, δ; then for each report of one period its number, minute, size."
+fn plan_text(plan: &Plan) -> String {
+    let mut text = format!("gap {} cycle {} total {}\n", plan.period / plan.k, plan.k, plan.total);
+    for i in 0..plan.k {
+        let (minute, size) = plan.report(i).expect("an even plan is proper");
+        writeln!(text, "{i} {minute} {size}").expect("text grows");
+    }
+    text
+}
