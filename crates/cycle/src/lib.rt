@@ -1,10 +1,10 @@
 // Checking a cycle: 0, or the number with which document 01 refuses it (3, 4, 12 to 16). The check lays its stretches over the
 // endless repetition with two ends that only go forward, and counts whole rounds by a product, so its work is linear in the
-// number of pairs however short a round is (`stretches`). What pairs are is the crate `pairs`', their file another's.
+// number of pairs however short a round is (`stretches`). What pairs are is the crate `pairs`', their file another's; the C call over
+// a lent list of pairs, which unpacks it and calls `check_unpacked_file`, is exported by `maxeltu`.
 mod stretches;
 
 use pairs::Flat;
-use pairs::Pair;
 use spec::Rate;
 use spec::Spec;
 use spec::SpecRead;
@@ -140,11 +140,4 @@ pub fn check_unpacked_file(spec_bytes: &[u8], flat: Flat) -> u32
         return spec::read_number(read);
     };
     check_unpacked(accepted, flat)
-}
-
-// The number of a lent list of pairs.
-pub fn check_pairs(spec: Spec, pairs: &[Pair]) -> u32
-    ensures { λ r. ⌜ r ≡ checkNumber spec (now (pairs .entry)) ⌝ }
-{
-    check_unpacked(spec, pairs::unpack(pairs))
 }
