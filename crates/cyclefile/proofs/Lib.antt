@@ -1,0 +1,5 @@
+pub mod Fields
+pub mod LaidOver
+pub mod OnePair
+pub mod Reading
+pub mod WholeFile

@@ -1,0 +1,3 @@
+pub mod Refusals
+pub mod File
+pub mod Steps
