@@ -3,3 +3,4 @@ pub mod LaidOver
 pub mod OnePair
 pub mod Reading
 pub mod WholeFile
+pub mod Writing

@@ -62,7 +62,7 @@ pub record Counted (places : ℕ) (file : List ℕ) (n : ℕ) : Type 0 where
   pub room : n ≤ places
   pub reads : readCycle places file ≡ pairs (firstPairs file n)
 
-countIn-true : (n : ℕ) → countIn n ≡ true → (1 ≤ n) × (n ≤ 512)
+pub countIn-true : (n : ℕ) → countIn n ≡ true → (1 ≤ n) × (n ≤ 512)
 countIn-true n e = let k = simp and-eq-true-iff at e in (leb-true 1 n (k .0), leb-true n 512 (k .1))
 
 counted-by : (places : ℕ) (file : List ℕ) (n : ℕ) (r : CycleRead) → readCycle places file ≡ r → judged r ≡ Count n → Counted places file n

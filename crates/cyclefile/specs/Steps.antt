@@ -2,6 +2,7 @@
 use Prim.Native.Nat.{ℕ, zero, suc, _+_, _*_}
 use mathlib.Core.Bool.{Bool, true, false, cond}
 use mathlib.Core.List.{List, [], _∷_, _++_}
+use lib.Dec.{eqb}
 use lib.ListN.{length, drop}
 use Rattle.pairs.specs.declared.Pair.{Pair}
 use Rattle.pairs.specs.Pairs.{noPair, flatten}
@@ -10,7 +11,9 @@ use Rattle.cyclefile.specs.declared.PairRead.{PairRead}
 use Rattle.cyclefile.specs.declared.PairRead.the-variants.{Taken, Stopped}
 use Rattle.cyclefile.specs.declared.Judged.{Judged}
 use Rattle.cyclefile.specs.declared.Judged.the-variants.{Count, Refused}
-use Rattle.cyclefile.specs.File.{Before, none, after, CycleRead, pairs, refused, readPair, laidOver}
+use Rattle.cyclefile.specs.declared.Written.{Written}
+use Rattle.cyclefile.specs.declared.Written.the-variants.{Bytes, Refused as NotWritten}
+use Rattle.cyclefile.specs.File.{Before, none, after, CycleRead, pairs, refused, readPair, laidOver, cycleBytes, writeNumber}
 
 -- the first pair's map byte stands after the count
 abbrev pub start : Cursor
@@ -54,3 +57,7 @@ judged (refused n) = Refused n
 abbrev pub wordsAfter : CycleRead → List ℕ → List ℕ
 wordsAfter (pairs ps) old = laidOver (flatten ps) old
 wordsAfter (refused n) old = old
+
+-- writing: the length of the file, or the refusal
+abbrev pub written : ℕ → List Pair → Written
+written room ps = cond (eqb (writeNumber room ps) 0) (Bytes (length (cycleBytes ps))) (NotWritten (writeNumber room ps))

@@ -1,0 +1,24 @@
+-- `cyclefile::map_byte` meets its contract: by its tests. Assumes nothing.
+use Rattle.cyclefile.proofs.map_byte.Statement.{statement}
+use Rattle.cyclefile.proofs.map_byte.Tie as tie
+use Rattle.cyclefile.proofs.map_byte.Reads as reads
+use Rattle.cyclefile.proofs.map_byte.Lts as lts
+
+-- src/lib.rt:331:1
+returns : tie.Need-returns
+returns c = simp (c .before .if1 .taken, c .if2 .taken)
+
+-- src/lib.rt:331:1
+returns-2 : tie.Need-returns-2
+returns-2 c = simp (c .before .if1 .taken, c .if2 .left)
+
+-- src/lib.rt:331:1
+returns-3 : tie.Need-returns-3
+returns-3 c = simp (c .before .if1 .left, c .if3 .taken)
+
+-- src/lib.rt:331:1
+returns-4 : tie.Need-returns-4
+returns-4 c = simp (c .before .if1 .left, c .if3 .left)
+
+pub map-byte-spec : {M : Type 1} → statement M
+map-byte-spec = tie.close (tie.spec returns returns-2 returns-3 returns-4)

@@ -1,0 +1,57 @@
+-- `cyclefile::passed` meets its contract: the bytes of a pair are its map and its fields. Assumes nothing.
+use native.Mathlib.Omega.{arith}
+use Rattle.cyclefile.proofs.Fields.{fieldLength-small}
+use Rattle.cyclefile.proofs.Writing.{length-pairBytes}
+use borrow.Author.Needs.{needs}
+use Rattle.cyclefile.proofs.passed.Statement.{statement}
+use Rattle.cyclefile.proofs.passed.Tie as tie
+use Rattle.cyclefile.proofs.passed.Reads as reads
+use Rattle.cyclefile.proofs.passed.Lts as lts
+use Rattle.cyclefile.proofs.field_length.Reads as field-length-reads
+use Rattle.cyclefile.proofs.gap_stands.Reads as gap-stands-reads
+use Rattle.cyclefile.proofs.size_stands.Reads as size-stands-reads
+
+-- src/lib.rt:294:28
+gap-stands-requires : tie.Need-gap-stands-requires
+gap-stands-requires c κs = search needs
+
+-- src/lib.rt:294:9
+field-length-requires : tie.Need-field-length-requires
+field-length-requires c κs = search needs
+
+-- src/lib.rt:295:29
+size-stands-requires : tie.Need-size-stands-requires
+size-stands-requires c κs = search needs
+
+-- src/lib.rt:295:9
+field-length-requires-2 : tie.Need-field-length-requires-2
+field-length-requires-2 c κs = search needs
+
+-- src/lib.rt:297:21
+add-t6 : tie.Need-add-t6
+add-t6 c = omega (arith, c .before .before .field-length .ensures, fieldLength-small (c .before .before .before .gap-stands .result))
+
+-- src/lib.rt:297:21
+add-t7 : tie.Need-add-t7
+add-t7 c = omega (arith, c .before .before .field-length .ensures, fieldLength-small (c .before .before .before .gap-stands .result), c .field-length2 .ensures, fieldLength-small (c .before .size-stands .result))
+
+-- src/lib.rt:297:13
+add-t8 : tie.Need-add-t8
+add-t8 c = omega (arith, c .before .before .before .field-length .ensures, fieldLength-small (c .before .before .before .before .gap-stands .result), c .before .field-length2 .ensures, fieldLength-small (c .before .before .size-stands .result), c .before .before .before .before .before .pre)
+
+-- src/lib.rt:290:1
+returns : tie.Need-returns
+returns c = rw (length-pairBytes, c .before .before .before .field-length .ensures, c .before .before .before .before .gap-stands .ensures, c .before .field-length2 .ensures, c .before .before .size-stands .ensures)
+
+pub passed-spec : {M : Type 1} → statement M
+passed-spec =
+    tie.close
+    (tie.spec
+    gap-stands-requires
+    field-length-requires
+    size-stands-requires
+    field-length-requires-2
+    add-t6
+    add-t7
+    add-t8
+    returns)
