@@ -4,3 +4,4 @@ pub mod OnePair
 pub mod Reading
 pub mod WholeFile
 pub mod Writing
+pub mod RoundTrip
