@@ -3,6 +3,7 @@
 -- field left out equals the pair's before it, and it is left out exactly when equal."
 -- And "What each operation turns down, in order", "Reading a cycle" and "Writing a cycle".
 use Prim.Native.Nat.{ℕ, zero, suc, _+_, _*_, _/_, _%_}
+use mathlib.Core.Path.{_≡_}
 use mathlib.Core.List.{List, [], _∷_, _++_}
 use mathlib.Core.Bool.{Bool, true, false, cond, _&&_, _||_, not}
 use lib.ListN.{length, getD, drop}
@@ -147,7 +148,7 @@ readCycle places file =
 abbrev pub laidOver : {A : Type 0} → List A → List A → List A
 laidOver new old = new ++ drop (length new) old
 
--- a lent list of pairs after reading: "A refusal .. writes to no lent list or bytes"
+-- a lent list of pairs after reading: "A refusal yields its number .. and writes to no lent list or bytes"
 abbrev pub placesAfter : CycleRead → List Pair → List Pair
 placesAfter (pairs ps) old = laidOver ps old
 placesAfter (refused n) old = old
@@ -155,3 +156,27 @@ placesAfter (refused n) old = old
 -- lent bytes after writing
 abbrev pub bytesAfter : List Pair → List ℕ → List ℕ
 bytesAfter ps old = cond (eqb (writeNumber (length old) ps) 0) (laidOver (cycleBytes ps) old) old
+
+-- ---- What a call through the C interface answers, and what it leaves behind each pointer
+
+-- the number that reading gives: 0 where it gives pairs
+abbrev pub numberOf : CycleRead → ℕ
+numberOf (pairs ps) = 0
+numberOf (refused n) = n
+
+-- the lent count afterwards
+abbrev pub countAfter : CycleRead → ℕ → ℕ
+countAfter (pairs ps) old = length ps
+countAfter (refused n) old = old
+
+-- reading a file into lent places and a lent count, which hold places′ and count′ afterwards
+pub record Reads (file : List ℕ) (places : List Pair) (count : ℕ) (answer : ℕ) (places′ : List Pair) (count′ : ℕ) : Type 0 where
+  pub answer-is : answer ≡ numberOf (readCycle (length places) file)
+  pub places-are : places′ ≡ placesAfter (readCycle (length places) file) places
+  pub count-is : count′ ≡ countAfter (readCycle (length places) file) count
+
+-- writing pairs into lent bytes and a lent length, which hold file′ and written′ afterwards
+pub record Writes (ps : List Pair) (file : List ℕ) (written : ℕ) (answer : ℕ) (file′ : List ℕ) (written′ : ℕ) : Type 0 where
+  pub answer-is : answer ≡ writeNumber (length file) ps
+  pub bytes-are : file′ ≡ bytesAfter ps file
+  pub written-is : written′ ≡ cond (eqb (writeNumber (length file) ps) 0) (length (cycleBytes ps)) written

@@ -7,6 +7,7 @@ use lib.ListN.{length, drop}
 use Rattle.pairs.specs.declared.Pair.{Pair}
 use Rattle.pairs.specs.Pairs.{noPair, flatten}
 use Rattle.cyclefile.specs.declared.Cursor.{Cursor}
+use Rattle.cyclefile.specs.declared.Begun.{Begun}
 use Rattle.cyclefile.specs.declared.PairRead.{PairRead}
 use Rattle.cyclefile.specs.declared.PairRead.the-variants.{Taken, Stopped}
 use Rattle.cyclefile.specs.declared.Judged.{Judged}
@@ -52,6 +53,11 @@ firstPairs file (suc i) = firstPairs file i ++ (cursorAt file (suc i) .last ∷ 
 abbrev pub judged : CycleRead → Judged
 judged (pairs ps) = Count (length ps)
 judged (refused n) = Refused n
+
+-- where reading begins: the refusal or 0, how many pairs are to be read, and the first cursor
+abbrev pub begun : CycleRead → Begun
+begun (pairs ps) = record { number = 0; todo = length ps; cursor = start }
+begun (refused n) = record { number = n; todo = 0; cursor = start }
 
 -- a lent flat slice after reading
 abbrev pub wordsAfter : CycleRead → List ℕ → List ℕ

@@ -1,18 +1,22 @@
 // A cycle file, read and written.
 use pairs::MOST_PAIRS;
+use pairs::Flat;
 use pairs::Pair;
+use pairs::unpack;
 
 mod refusal;
 
 ghost use mathlib.Core.Path.{_≡_};
+ghost use mathlib.Core.List.{List};
+ghost use Rattle.pairs.specs.declared.Pair.{Pair};
 ghost use Prim.Native.Nat.{_+_, _*_, _/_, _≤_, _<_};
 ghost use mathlib.Core.Bool.{cond, not, _&&_, _||_};
 ghost use lib.Dec.{eqb, ltb};
 ghost use lib.Seq.{sets};
-ghost use lib.ListN.{length, getD, drop};
-ghost use Rattle.cyclefile.specs.File.{none, countIn, readCycle, readPairs, laidOver, mapIsWrong, hasGap, hasSize, bytesTaken, fieldLength, numberAt, lastPair, readPair, pairAt, gapStands, sizeStands, standsInVain, mapByte, fieldBytes, pairBytes, pairsBytes, cycleBytes, bytesAfter};
-ghost use Rattle.cyclefile.specs.Steps.{start, beforeOf, readAt, nextOf, firstPairs, judged, wordsAfter, past, written};
-ghost use Rattle.pairs.specs.Pairs.{noPair, flatten, pairsOf};
+ghost use lib.ListN.{length, getD, take, drop};
+ghost use Rattle.cyclefile.specs.File.{none, countIn, readCycle, readPairs, laidOver, mapIsWrong, hasGap, hasSize, bytesTaken, fieldLength, numberAt, lastPair, readPair, pairAt, gapStands, sizeStands, standsInVain, mapByte, fieldBytes, pairBytes, pairsBytes, cycleBytes, bytesAfter, countAfter, Reads, Writes};
+ghost use Rattle.cyclefile.specs.Steps.{start, beforeOf, readAt, nextOf, firstPairs, judged, wordsAfter, past, begun, written};
+ghost use Rattle.pairs.specs.Pairs.{unpacked, noPair, flatten, pairsOf};
 
 // Where reading or writing stands: `at` bytes are passed, and `last` is the pair
 // passed last, where the next is not the first.
@@ -38,6 +42,14 @@ fn count_in(count: usize) -> bool
     ensures { λ r. ⌜ r ≡ countIn count ⌝ }
 {
     (1 <= count) & (count <= MOST_PAIRS)
+}
+
+// Where reading into a lent list begins: the refusal or 0, how many pairs are
+// to be read, and the first cursor.
+struct Begun {
+    number: u32,
+    todo: usize,
+    cursor: Cursor,
 }
 
 // What writing a file gives: how many bytes it has, or a refusal.
@@ -390,4 +402,81 @@ pub fn write_flat(words: &[u16], file: &mut [u8]) -> Written
     put_field(file, 0, true, count as u16);
     put_pairs(words, file);
     Written::Bytes(length)
+}
+
+// Judges a file, and tells the count where it can be read.
+fn begin_reading(file: &[u8], places: usize, count: &mut u32) -> Begun
+    ensures { λ r. ⌜ (r ≡ begun (readCycle places (now (file .entry)))) × (now (count .exit) ≡ countAfter (readCycle places (now (file .entry))) (now (count .entry))) × (r .todo ≤ places) ⌝ }
+{
+    let cursor = begin();
+    match judge(file, places) {
+        Judged::Count(todo) => {
+            *count = todo as u32;
+            Begun {
+                number: 0,
+                todo,
+                cursor,
+            }
+        }
+        Judged::Refused(number) => Begun {
+            number,
+            todo: 0,
+            cursor,
+        },
+    }
+}
+
+// Writes the cycle of the first pairs of an array.
+fn write_words(words: &[u16; 1024], count: usize, file: &mut [u8]) -> Written
+    requires { ⌜ count ≤ 512 ⌝ }
+    ensures { λ r. ⌜ (r ≡ written (length (now (file .entry))) (pairsOf (take (2 * count) (now (words .entry)))))
+        × (now (file .exit) ≡ bytesAfter (pairsOf (take (2 * count) (now (words .entry)))) (now (file .entry))) ⌝ }
+{
+    let all = &words[..];
+    write_flat(&all[..2 * count], file)
+}
+
+// Writes the cycle of a list that was laid flat, and tells the length of the file where it is written.
+fn write_unpacked(f: Flat, file: &mut [u8], written: &mut u32) -> u32
+    ensures { λ r. ⌜ ((ps : List Pair) → f ≡ unpacked ps → Writes ps (now (file .entry)) (now (written .entry)) r (now (file .exit)) (now (written .exit))) ⌝ }
+{
+    let count = f.count;
+    if !count_in(count) {
+        return refusal::COUNT;
+    }
+    let words = f.words;
+    match write_words(&words, count, file) {
+        Written::Bytes(length) => {
+            *written = length as u32;
+            0
+        }
+        Written::Refused(number) => number,
+    }
+}
+
+// Reads a cycle file into a lent list of pairs. The count is told, and the list
+// is written to, only where the answer is 0.
+#[no_mangle]
+pub extern "C" fn maxeltu_read_cycle(file: &[u8], places: &mut [Pair], count: &mut u32) -> u32
+    ensures { λ r. ⌜ Reads (now (file .entry)) (now (places .entry)) (now (count .entry)) r (now (places .exit)) (now (count .exit)) ⌝ }
+{
+    let b = begin_reading(file, places.len(), count);
+    let todo = b.todo;
+    let mut c = b.cursor;
+    let mut i: usize = 0;
+    while i < todo {
+        c = next(file, c);
+        places[i] = c.last;
+        i += 1;
+    }
+    b.number
+}
+
+// Writes a lent list of pairs as a cycle file. The file's length is told, and
+// the bytes are written to, only where the answer is 0.
+#[no_mangle]
+pub extern "C" fn maxeltu_write_cycle(pairs: &[Pair], file: &mut [u8], written: &mut u32) -> u32
+    ensures { λ r. ⌜ Writes (now (pairs .entry)) (now (file .entry)) (now (written .entry)) r (now (file .exit)) (now (written .exit)) ⌝ }
+{
+    write_unpacked(unpack(pairs), file, written)
 }
