@@ -1,12 +1,13 @@
 -- Laws for the functions over lent lists of pairs: what their covered callees say of a flat form or a cursor, said of the pairs.
 -- Assumes nothing.
 use mathlib.Core.Path.{_≡_, refl, sym, ap, _∙_}
-use Prim.Native.Nat.{ℕ, _+_, _*_, _≤_, _<_, zero-le}
+use Prim.Native.Nat.{ℕ, suc, _+_, _*_, _≤_, _<_, zero-le}
+use native.Mathlib.Numerals.{add-one}
 use native.Mathlib.Omega.{arith}
 use mathlib.Core.Bool.{Bool, true, false, cond}
 use mathlib.Core.List.{List, [], _∷_, _++_}
 use lib.Dec.{eqb, ltb}
-use lib.ListN.{length, take, length-append}
+use lib.ListN.{length, set, take, length-append}
 use borrow.Author.Tests.{eqb-true, eqb-false, ne-eqb}
 use Rattle.pairs.specs.declared.Pair.{Pair}
 use Rattle.pairs.specs.declared.Flat.{Flat}
@@ -18,8 +19,9 @@ use Rattle.cyclefile.specs.declared.Judged.the-variants.{Count, Refused}
 use Rattle.cyclefile.specs.declared.Written.{Written}
 use Rattle.cyclefile.specs.declared.Written.the-variants.{Bytes, Refused as NotWritten}
 use Rattle.cyclefile.specs.Refusals.{wrongCount}
-use Rattle.cyclefile.specs.File.{Before, none, after, countIn, pairBytes, pairsBytes, cycleBytes, writeNumber, bytesAfter, CycleRead, pairs, refused, readCycle, laidOver, placesAfter, numberOf, countAfter, Writes}
-use Rattle.cyclefile.specs.Steps.{start, firstPairs, judged, begun, written}
+use Rattle.cyclefile.specs.File.{Before, none, after, countIn, pairBytes, pairsBytes, cycleBytes, writeNumber, bytesAfter, CycleRead, pairs, refused, readCycle, laidOver, placesAfter, numberOf, countAfter, Reads, Writes}
+use Rattle.cyclefile.specs.Steps.{start, cursorAt, firstPairs, judged, begun, written}
+use Rattle.cyclefile.proofs.LaidOver.{length-laidOver, laidOver-next}
 use Rattle.cyclefile.proofs.Reading.{length-firstPairs}
 use Rattle.cyclefile.proofs.WholeFile.{counted, not-read, countIn-true}
 use Rattle.cyclefile.proofs.Writing.{pairBytes-small, length-cycleBytes}
@@ -106,3 +108,24 @@ wrote-small room ps n h =
     let w = wrote-by room ps n (eqb (writeNumber room ps) 0) refl h in
     let c = countIn-true (length ps) (written-counted room ps (countIn (length ps)) refl (eqb-true (writeNumber room ps) 0 (w .0))) in
     omega (arith, w .1, length-cycleBytes ps, pairsBytes-small none ps, c .1)
+
+-- ---- the loop that writes the pairs
+
+-- the lent list when the first i pairs are written
+abbrev pub placesAt : List ℕ → List Pair → ℕ → List Pair
+placesAt file ys i = laidOver (firstPairs file i) ys
+
+pub length-placesAt : (file : List ℕ) (ys : List Pair) (i : ℕ) → i ≤ length ys → length (placesAt file ys i) ≡ length ys
+length-placesAt file ys i h = length-laidOver (firstPairs file i) ys (rw length-firstPairs h)
+
+pub placesAt-next : (file : List ℕ) (ys : List Pair) (i : ℕ) → i < length ys → set (placesAt file ys i) i (cursorAt file (i + 1) .last) ≡ placesAt file ys (i + 1)
+placesAt-next file ys i h = rw add-one (laidOver-next (firstPairs file i) ys (cursorAt file (suc i) .last) i (length-firstPairs file i) h)
+
+pub reads-done : (file : List ℕ) (ys : List Pair) (old count i : ℕ) (b : Begun) → b ≡ begun (readCycle (length ys) file) → count ≡ countAfter (readCycle (length ys) file) old → i ≡ b .todo
+    → Reads file ys old (b .number) (placesAt file ys i) count
+reads-done file ys old count i b e c t =
+    record {
+      answer-is = ap (λ (g : Begun). g .number) e ∙ begun-number (readCycle (length ys) file);
+      places-are = ap (placesAt file ys) (t ∙ ap (λ (g : Begun). g .todo) e) ∙ read-whole (length ys) file ys;
+      count-is = c;
+    }

@@ -1,6 +1,6 @@
 // A cycle file, read and written.
-use pairs::MOST_PAIRS;
 use pairs::Flat;
+use pairs::MOST_PAIRS;
 use pairs::Pair;
 use pairs::unpack;
 
