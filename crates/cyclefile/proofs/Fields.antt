@@ -5,7 +5,7 @@ use mathlib.Core.Bool.{Bool, true, false, cond, not, _||_}
 use lib.Dec.{eqb, lit≤}
 use Rattle.pairs.specs.declared.Pair.{Pair}
 use Rattle.cyclefile.specs.declared.Cursor.{Cursor}
-use Rattle.cyclefile.specs.File.{Before, none, after, isFirst, stands, fieldLength}
+use Rattle.cyclefile.specs.File.{none, after, isFirst, stands, fieldLength}
 use Rattle.cyclefile.specs.Steps.{beforeOf}
 
 pub fieldLength-small : (t : Bool) → fieldLength t ≤ 2

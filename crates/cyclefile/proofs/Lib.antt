@@ -1,8 +1,8 @@
 pub mod Fields
 pub mod LaidOver
 pub mod OnePair
-pub mod Reading
+pub mod PairByPair
 pub mod WholeFile
-pub mod Writing
-pub mod RoundTrip
+pub mod StoredBytes
 pub mod PairForms
+pub mod RoundTrip

@@ -5,10 +5,10 @@ use Prim.Native.Nat.{ℕ, suc, _+_, _*_, _≤_, _<_, zero-le}
 use native.Mathlib.Numerals.{add-one}
 use native.Mathlib.Omega.{arith}
 use mathlib.Core.Bool.{Bool, true, false, cond}
-use mathlib.Core.List.{List, [], _∷_, _++_}
-use lib.Dec.{eqb, ltb}
+use mathlib.Core.List.{List, [], _∷_}
+use lib.Dec.{eqb}
 use lib.ListN.{length, set, take, length-append}
-use borrow.Author.Tests.{eqb-true, eqb-false, ne-eqb}
+use borrow.Author.Tests.{eqb-true}
 use Rattle.pairs.specs.declared.Pair.{Pair}
 use Rattle.pairs.specs.declared.Flat.{Flat}
 use Rattle.pairs.specs.Pairs.{pairsOf, unpacked}
@@ -16,15 +16,14 @@ use Rattle.pairs.proofs.Unpacked.{unpacked-pairs, count-unpacked}
 use Rattle.cyclefile.specs.declared.Cursor.{Cursor}
 use Rattle.cyclefile.specs.declared.Begun.{Begun}
 use Rattle.cyclefile.specs.declared.Judged.the-variants.{Count, Refused}
-use Rattle.cyclefile.specs.declared.Written.{Written}
 use Rattle.cyclefile.specs.declared.Written.the-variants.{Bytes, Refused as NotWritten}
 use Rattle.cyclefile.specs.Refusals.{wrongCount}
-use Rattle.cyclefile.specs.File.{Before, none, after, countIn, pairBytes, pairsBytes, cycleBytes, writeNumber, bytesAfter, CycleRead, pairs, refused, readCycle, laidOver, placesAfter, numberOf, countAfter, Reads, Writes}
+use Rattle.cyclefile.specs.File.{Before, none, after, countIn, pairsBytes, cycleBytes, writeNumber, bytesAfter, CycleRead, pairs, refused, readCycle, laidOver, placesAfter, numberOf, countAfter, Reads, Writes}
 use Rattle.cyclefile.specs.Steps.{start, cursorAt, firstPairs, judged, begun, written}
 use Rattle.cyclefile.proofs.LaidOver.{length-laidOver, laidOver-next}
-use Rattle.cyclefile.proofs.Reading.{length-firstPairs}
+use Rattle.cyclefile.proofs.PairByPair.{length-firstPairs}
 use Rattle.cyclefile.proofs.WholeFile.{counted, not-read, countIn-true}
-use Rattle.cyclefile.proofs.Writing.{pairBytes-small, length-cycleBytes}
+use Rattle.cyclefile.proofs.StoredBytes.{pairBytes-small, length-cycleBytes}
 
 -- ---- reading
 

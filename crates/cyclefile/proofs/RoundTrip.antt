@@ -6,21 +6,21 @@ use native.Mathlib.Nat.{zero-add}
 use native.Mathlib.Numerals.{add-one}
 use native.Mathlib.Omega.{arith}
 use mathlib.Core.Bool.{Bool, true, false, cond, not, _&&_, _||_, and-false}
-use mathlib.Core.List.{List, [], _∷_, _++_, append-assoc}
-use lib.Dec.{ltb, eqb}
+use mathlib.Core.List.{List, [], _∷_, _++_}
+use lib.Dec.{ltb}
 use lib.ListN.{length, getD, take, drop, length-append, take-append-drop}
 use lib.Seq.{drop-append-seam, drop-cons, take-add, getD-drop}
 use borrow.Author.Tests.{eqb-true, eq-eqb, not-false, le-leb, ltb-false}
 use Rattle.pairs.specs.declared.Pair.{Pair}
 use Rattle.cyclefile.specs.declared.PairRead.the-variants.{Taken}
-use Rattle.cyclefile.specs.File.{Before, none, after, isFirst, lastPair, stands, gapStands, sizeStands, mapByte, bytesOf, fieldBytes, pairBytes, pairsBytes, cycleBytes, CycleRead, pairs, refused, countIn, numberAt, hasGap, hasSize, mapIsWrong, fieldLength, bytesTaken, pairAt, standsInVain, readPair, withFirst, readPairs, readCycle}
+use Rattle.cyclefile.specs.File.{Before, none, after, isFirst, lastPair, stands, gapStands, sizeStands, mapByte, bytesOf, fieldBytes, pairBytes, pairsBytes, cycleBytes, pairs, numberAt, hasGap, hasSize, mapIsWrong, fieldLength, bytesTaken, pairAt, standsInVain, readPair, readPairs}
 use Rattle.cyclefile.specs.Statements.{ReadsBack, AreBytes, WritesBack, ReadsCycles}
-use Rattle.cyclefile.proofs.OnePair.{Took, took}
+use Rattle.cyclefile.proofs.OnePair.{took}
 use Rattle.cyclefile.proofs.OnePair as one
-use Rattle.cyclefile.proofs.Reading.{Split, split, ended, length-read}
-use Rattle.cyclefile.proofs.WholeFile.{Accepted, accepted, countIn-true}
+use Rattle.cyclefile.proofs.PairByPair.{split, ended, length-read}
+use Rattle.cyclefile.proofs.WholeFile.{accepted, countIn-true}
 use Rattle.cyclefile.proofs.WholeFile as whole
-use Rattle.cyclefile.proofs.Writing.{length-fieldBytes, length-pairBytes}
+use Rattle.cyclefile.proofs.StoredBytes.{length-pairBytes}
 
 -- ---- what is written can be read
 

@@ -13,7 +13,7 @@ use Rattle.pairs.specs.declared.Pair.{Pair}
 use Rattle.cyclefile.specs.Refusals.{wrongCount, cut, noRoom}
 use Rattle.cyclefile.specs.declared.Judged.the-variants.{Count, Refused}
 use Rattle.cyclefile.specs.Steps.{judged, firstPairs}
-use Rattle.cyclefile.proofs.Reading.{length-read, filled}
+use Rattle.cyclefile.proofs.PairByPair.{length-read, filled}
 use Rattle.cyclefile.specs.File.{none, CycleRead, pairs, refused, countIn, numberAt, readPairs, readCycle}
 
 module _ (places : ℕ) (file : List ℕ) where
