@@ -57,6 +57,9 @@ size-pairsOf (g ∷ []) j = ap (λ (k : ℕ). getD (g ∷ []) k 0) (sym (add-one
 size-pairsOf (g ∷ s ∷ l) zero = refl
 size-pairsOf (g ∷ s ∷ l) (suc j) = size-pairsOf l j ∙ ap (λ (k : ℕ). getD (g ∷ s ∷ l) k 0) (sym (odd-suc j))
 
+pub pair-pairsOf : (l : List ℕ) (j : ℕ) → j < length l / 2 → getD (pairsOf l) j noPair ≡ record { gap = getD l (2 * j) 0; size = getD l (2 * j + 1) 0 }
+pair-pairsOf l j h = ap (λ (g : ℕ). record { gap = g; size = getD (pairsOf l) j noPair .size }) (gap-pairsOf l j h) ∙ ap (λ (s : ℕ). record { gap = getD l (2 * j) 0; size = s }) (size-pairsOf l j)
+
 pub gap-flatten : (ps : List Pair) (j : ℕ) → getD (flatten ps) (2 * j) 0 ≡ getD ps j noPair .gap
 gap-flatten [] j = refl
 gap-flatten (p ∷ ps) zero = refl

@@ -99,5 +99,9 @@ pub unpacked-pairs : (ps : List Pair) → length ps ≤ 512 → pairsOf (take (2
 unfolding unpacked
 unpacked-pairs ps h = ap pairsOf (unpacked-flat ps h) ∙ pairsOf-flatten ps
 
+pub count-unpacked : (ps : List Pair) → unpacked ps .count ≡ length ps
+unfolding unpacked
+count-unpacked ps = refl
+
 pub length-unpacked : (ps : List Pair) → length (unpacked ps .words) ≡ 1024
 length-unpacked ps = ap length (sym (laid-all ps)) ∙ length-laid ps (held (length ps)) (held-least (length ps) .0) (held-least (length ps) .1)

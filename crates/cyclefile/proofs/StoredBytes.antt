@@ -1,0 +1,86 @@
+-- Laws of writing: how long the parts of a file are, and that parts stored one behind the other are stored as one. Assumes nothing.
+use mathlib.Core.Path.{_≡_, refl, sym, ap, _∙_}
+use Prim.Native.Nat.{ℕ, suc, _+_, _≤_, _<_}
+use native.Mathlib.Nat.{zero-add, add-zero}
+use native.Mathlib.Numerals.{add-one}
+use native.Mathlib.Omega.{arith}
+use mathlib.Core.Bool.{Bool, true, false}
+use mathlib.Core.List.{List, [], _∷_, _++_}
+use lib.ListN.{length, getD, set, drop, length-append, drop-of-length-le}
+use borrow.Author.Tests.{lt-ltb, le-ltb}
+use lib.Seq.{sets, sets-eq, drop-cons}
+use Rattle.pairs.specs.declared.Pair.{Pair}
+use Rattle.pairs.specs.Pairs.{noPair}
+use Rattle.cyclefile.proofs.Fields.{fieldLength-small}
+use Rattle.cyclefile.specs.Refusals.{wrongCount, noRoom}
+use Rattle.cyclefile.specs.declared.Written.the-variants.{Bytes, Refused as NotWritten}
+use Rattle.cyclefile.specs.Steps.{written}
+use Rattle.cyclefile.specs.File.{countIn, bytesOf, writeNumber, bytesAfter, laidOver, Before, none, after, gapStands, sizeStands, mapByte, fieldBytes, fieldLength, pairBytes, pairsBytes, cycleBytes}
+
+pub length-fieldBytes : (t : Bool) (n : ℕ) → length (fieldBytes t n) ≡ fieldLength t
+length-fieldBytes true n = refl
+length-fieldBytes false n = refl
+
+pub length-pairBytes : (before : Before) (p : Pair) → length (pairBytes before p) ≡ 1 + fieldLength (gapStands before p) + fieldLength (sizeStands before p)
+unfolding pairBytes
+length-pairBytes before p = simp (length-append, length-fieldBytes) (omega arith)
+
+pub pairBytes-small : (before : Before) (p : Pair) → length (pairBytes before p) ≤ 5
+pairBytes-small before p = omega (arith, length-pairBytes before p, fieldLength-small (gapStands before p), fieldLength-small (sizeStands before p))
+
+pub length-cycleBytes : (ps : List Pair) → length (cycleBytes ps) ≡ 2 + length (pairsBytes none ps)
+unfolding cycleBytes
+length-cycleBytes ps = omega arith
+
+-- the bytes of the pairs from i on are those of pair i, and of the pairs behind it
+pub pairsBytes-next : (before : Before) (ps : List Pair) (i : ℕ) → i < length ps → pairsBytes before (drop i ps) ≡ pairBytes before (getD ps i noPair) ++ pairsBytes (after (getD ps i noPair)) (drop (i + 1) ps)
+unfolding pairsBytes
+pairsBytes-next before ps i h = rw (drop-cons ps i noPair, add-one)
+
+pub sets-append : {A : Type 0} (l : List A) (i : ℕ) (vs ws : List A) → sets l i (vs ++ ws) ≡ sets (sets l i vs) (i + length vs) ws
+sets-append l i [] ws = ap (λ (k : ℕ). sets l k ws) (sym (add-zero i))
+sets-append l i (v ∷ vs) ws = let e : suc i + length vs ≡ i + suc (length vs) = omega arith in sets-append _ (suc i) vs ws ∙ ap (λ (k : ℕ). sets (sets l i (v ∷ vs)) k ws) e
+
+-- a pair is its map byte and its fields, stored one behind the other
+pub pair-stored : (before : Before) (p : Pair) (l : List ℕ) (at : ℕ)
+    → sets (sets (set l at (mapByte (gapStands before p) (sizeStands before p))) (at + 1) (fieldBytes (gapStands before p) (p .gap))) (at + 1 + fieldLength (gapStands before p)) (fieldBytes (sizeStands before p) (p .size)) ≡ sets l at (pairBytes before p)
+unfolding pairBytes
+pair-stored before p l at =
+    rw (← length-fieldBytes (gapStands before p) (p .gap), ← sets-append, add-one)
+
+-- what is left to write after a pair
+pub left-next : (before : Before) (ps : List Pair) (i at n : ℕ) → i < length ps → at + length (pairsBytes before (drop i ps)) ≡ n
+    → at + length (pairBytes before (getD ps i noPair)) + length (pairsBytes (after (getD ps i noPair)) (drop (i + 1) ps)) ≡ n
+left-next before ps i at n h e = omega (arith, e, ap length (pairsBytes-next before ps i h), length-append (pairBytes before (getD ps i noPair)) (pairsBytes (after (getD ps i noPair)) (drop (i + 1) ps)))
+
+pub stored-next : (before : Before) (ps : List Pair) (i at : ℕ) (file : List ℕ) → i < length ps
+    → sets (sets file at (pairBytes before (getD ps i noPair))) (at + length (pairBytes before (getD ps i noPair))) (pairsBytes (after (getD ps i noPair)) (drop (i + 1) ps)) ≡ sets file at (pairsBytes before (drop i ps))
+stored-next before ps i at file h = sym (sets-append file at (pairBytes before (getD ps i noPair)) (pairsBytes (after (getD ps i noPair)) (drop (i + 1) ps))) ∙ ap (sets file at) (sym (pairsBytes-next before ps i h))
+
+pub left-none : (before : Before) (ps : List Pair) (i : ℕ) → length ps ≤ i → pairsBytes before (drop i ps) ≡ []
+unfolding pairsBytes
+left-none before ps i h = rw (drop-of-length-le ps h)
+
+-- ---- the whole file, by cases
+
+module _ (ps : List Pair) (old : List ℕ) where
+  pub bad-count : countIn (length ps) ≡ false → (NotWritten wrongCount ≡ written (length old) ps) × (old ≡ bytesAfter ps old)
+  unfolding writeNumber
+  bad-count h = simp h (refl, refl)
+
+  count-and-pairs : length (cycleBytes ps) ≤ length old → sets (sets old 0 (bytesOf (length ps))) 2 (pairsBytes none ps) ≡ laidOver (cycleBytes ps) old
+  unfolding cycleBytes
+  count-and-pairs h =
+      sym (sets-append old 0 (bytesOf (length ps)) (pairsBytes none ps))
+      ∙ sets-eq (cycleBytes ps) old 0 (rw zero-add h)
+      ∙ ap (λ (k : ℕ). cycleBytes ps ++ drop k old) (zero-add (length (cycleBytes ps)))
+
+  module _ (counted : countIn (length ps) ≡ true) where
+    pub few-bytes : length old < length (cycleBytes ps) → (NotWritten noRoom ≡ written (length old) ps) × (old ≡ bytesAfter ps old)
+    unfolding writeNumber
+    few-bytes h = simp (counted, lt-ltb (length old) (length (cycleBytes ps)) h) (refl, refl)
+
+    pub stored-whole : length (cycleBytes ps) ≤ length old
+        → (Bytes (length (cycleBytes ps)) ≡ written (length old) ps) × (sets (sets old 0 (bytesOf (length ps))) 2 (pairsBytes none ps) ≡ bytesAfter ps old)
+    unfolding writeNumber
+    stored-whole h = simp (counted, le-ltb (length old) (length (cycleBytes ps)) h) (refl, count-and-pairs h)

@@ -1,0 +1,4 @@
+pub mod Refusals
+pub mod File
+pub mod Steps
+pub mod Statements
