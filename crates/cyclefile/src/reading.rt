@@ -130,7 +130,7 @@ fn read_at(file: &[u8], c: Cursor) -> PairRead
 }
 
 // The cursor past the pair at `c`. Where no pair can be read there, `c` itself.
-pub(crate) fn next(file: &[u8], c: Cursor) -> Cursor
+pub fn next(file: &[u8], c: Cursor) -> Cursor
     ensures { λ r. ⌜ r ≡ nextOf (now (file .entry)) c ⌝ }
 {
     match read_at(file, c) {
@@ -218,7 +218,7 @@ pub fn read_flat(file: &[u8], words: &mut [u16]) -> Judged
 }
 
 // Judges a file, and tells the count where it can be read.
-pub(crate) fn begin_reading(file: &[u8], places: usize, count: &mut u32) -> Begun
+pub fn begin_reading(file: &[u8], places: usize, count: &mut u32) -> Begun
     ensures { λ r. ⌜ (r ≡ begun (readCycle places (now (file .entry)))) × (now (count .exit) ≡ countAfter (readCycle places (now (file .entry))) (now (count .entry))) × (r .todo ≤ places) ⌝ }
 {
     let cursor = begin();

@@ -149,7 +149,7 @@ fn write_words(words: &[u16; 1024], count: usize, file: &mut [u8]) -> Written
 }
 
 // Writes the cycle of a list that was laid flat, and tells the length of the file where it is written.
-pub(crate) fn write_unpacked(f: Flat, file: &mut [u8], written: &mut u32) -> u32
+pub fn write_unpacked(f: Flat, file: &mut [u8], written: &mut u32) -> u32
     ensures { λ r. ⌜ ((ps : List Pair) → f ≡ unpacked ps → Writes ps (now (file .entry)) (now (written .entry)) r (now (file .exit)) (now (written .exit))) ⌝ }
 {
     let count = f.count;

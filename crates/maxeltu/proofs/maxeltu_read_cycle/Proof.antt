@@ -1,4 +1,4 @@
--- `cyclefile::maxeltu_read_cycle` meets its contract: a walk of its MIR, by hand, with a loop that writes a `&mut [Pair]`. `begin_reading` is called, to which the lent count is given up for good; then the borrow of the list is opened once, before the loop, and closed once, after it.
+-- `maxeltu_read_cycle` meets its contract: a walk of its MIR, by hand, with a loop that writes a `&mut [Pair]`. `begin_reading` is called, to which the lent count is given up for good; then the borrow of the list is opened once, before the loop, and closed once, after it.
 -- The loop's invariant: the cursor is `cursorAt file i`, and the list holds `placesAt file ys i`, the first i pairs of the file over what was there. A turn calls `next`, takes place i out of the row, stores the pair and puts it back.
 -- All that the proof knows of `begin_reading` and of `next` is their contracts. Assumes nothing.
 use mathlib.Core.Path.{_≡_, refl, sym, ap, _∙_, subst}
@@ -54,28 +54,28 @@ use Rattle.pairs.specs.Pairs.{noPair}
 use Rattle.pairs.specs.declared.Pair.{Pair}
 use Rattle.pairs.proofs.Pair as P
 use Rattle.pairs.proofs.Pair.Laws as P′
 use Rattle.cyclefile.specs.declared.Begun.{Begun}
 use Rattle.cyclefile.specs.declared.Cursor.{Cursor}
 use Rattle.cyclefile.specs.File.{CycleRead, readCycle, countAfter}
 use Rattle.cyclefile.specs.Steps.{start, nextOf, cursorAt, begun}
 use Rattle.cyclefile.proofs.PairForms.{begun-cursor, placesAt, length-placesAt, placesAt-next, reads-done}
 use Rattle.cyclefile.proofs.Begun as B
 use Rattle.cyclefile.proofs.Begun.Laws as B′
 use Rattle.cyclefile.proofs.Cursor as Cu
 use Rattle.cyclefile.proofs.Cursor.Laws as Cu′
 use Rattle.cyclefile.proofs.reading.begin_reading as begin-reading
 use Rattle.cyclefile.proofs.reading.begin_reading.Symbol as begin-def
 use Rattle.cyclefile.proofs.reading.begin_reading.Symbol.{name as #cyclefile·begin-reading}
 use Rattle.cyclefile.proofs.reading.begin_reading.Met as begin-thm
 use Rattle.cyclefile.proofs.reading.next as next
 use Rattle.cyclefile.proofs.reading.next.Symbol as next-def
 use Rattle.cyclefile.proofs.reading.next.Symbol.{name as #cyclefile·next}
 use Rattle.cyclefile.proofs.reading.next.Met as next-thm
-use Rattle.cyclefile.proofs.maxeltu_read_cycle.Key.{name as #cyclefile·maxeltu-read-cycle}
-use Rattle.cyclefile.proofs.maxeltu_read_cycle as self
-use Rattle.cyclefile.proofs.maxeltu_read_cycle.Statement as stated
-use Rattle.cyclefile.proofs.maxeltu_read_cycle.Code as code
-use Rattle.cyclefile.proofs.maxeltu_read_cycle.Code.Mir as piece
+use Rattle.maxeltu.proofs.maxeltu_read_cycle.Key.{name as #maxeltu·maxeltu-read-cycle}
+use Rattle.maxeltu.proofs.maxeltu_read_cycle as self
+use Rattle.maxeltu.proofs.maxeltu_read_cycle.Statement as stated
+use Rattle.maxeltu.proofs.maxeltu_read_cycle.Code as code
+use Rattle.maxeltu.proofs.maxeltu_read_cycle.Code.Mir as piece
 
 abbrev stayed : Stays (self.ended .signature .params) (self.ended .kept)
 stayed = (stay-none-slice (0 ∷ []) tt (plain (λ _. u8)) yes, (stay-slice (1 ∷ []) tt (plain (λ _. P.the-row)), (gave-ref (2 ∷ []) tt (plain (λ _. u32)), tt)))
@@ -360,7 +360,7 @@ pub maxeltu-read-cycle-spec : {M : Type 1} → stated.statement M
 unfolding code.routine tablesOf
 maxeltu-read-cycle-spec 𝓤 H 𝓜 𝓖 𝓡 =
     entered 𝓤 H (tripleOf 𝓤 H (𝓖 .A) self.signature (self.spec 𝓤 H (𝓖 .A) (𝓜 .mem) (𝓡 .run)))
-    (tables 𝓤 H 𝓜 𝓡 code.env .C) (tables 𝓤 H 𝓜 𝓡 code.env .Λ) #cyclefile·maxeltu-read-cycle code.function (code.unfolded 𝓤 H 𝓜 𝓡)
+    (tables 𝓤 H 𝓜 𝓡 code.env .C) (tables 𝓤 H 𝓜 𝓡 code.env .Λ) #maxeltu·maxeltu-read-cycle code.function (code.unfolded 𝓤 H 𝓜 𝓡)
     (meets 𝓤 H (𝓖 .A) (givenOf 𝓤 H 𝓜 𝓖) (𝓜 .mem) (𝓡 .run) (tablesOf 𝓤 H 𝓜 (tables 𝓤 H 𝓜 𝓡 code.env))
     (cited 𝓤 H (Begin 𝓤 H (𝓖 .A) (𝓜 .mem) (𝓡 .run)) 𝓜 𝓡 code.env #cyclefile·begin-reading begin-def.routine code.calls-cyclefile·reading·begin-reading (begin-thm.met 𝓤 H 𝓜 𝓖 𝓡))
     (cited 𝓤 H (Next 𝓤 H (𝓖 .A) (𝓜 .mem) (𝓡 .run)) 𝓜 𝓡 code.env #cyclefile·next next-def.routine code.calls-cyclefile·reading·next (next-thm.met 𝓤 H 𝓜 𝓖 𝓡)))

@@ -1,4 +1,4 @@
--- `cyclefile::maxeltu_write_cycle` meets its contract: a walk of its MIR, by hand. `unpack` is called on the slice, and `write_unpacked` on what it made, the lent bytes and the lent length; both borrows are given up to it for good, so what it says of their last values is said here. All that the proof knows of the two callees is their contracts.
+-- `maxeltu_write_cycle` meets its contract: a walk of its MIR, by hand. `unpack` is called on the slice, and `write_unpacked` on what it made, the lent bytes and the lent length; both borrows are given up to it for good, so what it says of their last values is said here. All that the proof knows of the two callees is their contracts.
 -- A `&[T]` is Copy: what it owns is had twice, one goes to `unpack`, beside the lifetime's token, which comes back, and one is kept for the exit.
 -- Assumes nothing.
 use mathlib.Core.Path.{_≡_, refl}
@@ -47,15 +47,15 @@ use Rattle.pairs.proofs.unpack as unpack
 use Rattle.pairs.proofs.unpack.Symbol as unpack-def
 use Rattle.pairs.proofs.unpack.Symbol.{name as #pairs·unpack}
 use Rattle.pairs.proofs.unpack.Met as unpack-thm
 use Rattle.cyclefile.specs.File.{Writes}
 use Rattle.cyclefile.proofs.writing.write_unpacked as write
 use Rattle.cyclefile.proofs.writing.write_unpacked.Symbol as write-def
 use Rattle.cyclefile.proofs.writing.write_unpacked.Symbol.{name as #cyclefile·write-unpacked}
 use Rattle.cyclefile.proofs.writing.write_unpacked.Met as write-thm
-use Rattle.cyclefile.proofs.maxeltu_write_cycle.Key.{name as #cyclefile·maxeltu-write-cycle}
-use Rattle.cyclefile.proofs.maxeltu_write_cycle as self
-use Rattle.cyclefile.proofs.maxeltu_write_cycle.Statement as stated
-use Rattle.cyclefile.proofs.maxeltu_write_cycle.Code as code
+use Rattle.maxeltu.proofs.maxeltu_write_cycle.Key.{name as #maxeltu·maxeltu-write-cycle}
+use Rattle.maxeltu.proofs.maxeltu_write_cycle as self
+use Rattle.maxeltu.proofs.maxeltu_write_cycle.Statement as stated
+use Rattle.maxeltu.proofs.maxeltu_write_cycle.Code as code
 
 abbrev stayed : Stays (self.ended .signature .params) (self.ended .kept)
 stayed = (stay-none-slice (0 ∷ []) tt (plain (λ _. P.the-row)) yes, (gave-slice (1 ∷ []) tt (plain (λ _. u8)), (gave-ref (2 ∷ []) tt (plain (λ _. u32)), tt)))
@@ -177,7 +177,7 @@ pub maxeltu-write-cycle-spec : {M : Type 1} → stated.statement M
 unfolding code.routine tablesOf
 maxeltu-write-cycle-spec 𝓤 H 𝓜 𝓖 𝓡 =
     entered 𝓤 H (tripleOf 𝓤 H (𝓖 .A) self.signature (self.spec 𝓤 H (𝓖 .A) (𝓜 .mem) (𝓡 .run)))
-    (tables 𝓤 H 𝓜 𝓡 code.env .C) (tables 𝓤 H 𝓜 𝓡 code.env .Λ) #cyclefile·maxeltu-write-cycle code.function (code.unfolded 𝓤 H 𝓜 𝓡)
+    (tables 𝓤 H 𝓜 𝓡 code.env .C) (tables 𝓤 H 𝓜 𝓡 code.env .Λ) #maxeltu·maxeltu-write-cycle code.function (code.unfolded 𝓤 H 𝓜 𝓡)
     (meets 𝓤 H (𝓖 .A) (givenOf 𝓤 H 𝓜 𝓖) (𝓜 .mem) (𝓡 .run) (tablesOf 𝓤 H 𝓜 (tables 𝓤 H 𝓜 𝓡 code.env))
     (cited 𝓤 H (Unpack 𝓤 H (𝓖 .A) (𝓜 .mem) (𝓡 .run)) 𝓜 𝓡 code.env #pairs·unpack unpack-def.routine code.calls-pairs·unpack (unpack-thm.met 𝓤 H 𝓜 𝓖 𝓡))
     (cited 𝓤 H (Write 𝓤 H (𝓖 .A) (𝓜 .mem) (𝓡 .run)) 𝓜 𝓡 code.env #cyclefile·write-unpacked write-def.routine code.calls-cyclefile·writing·write-unpacked (write-thm.met 𝓤 H 𝓜 𝓖 𝓡)))

@@ -1,0 +1,4 @@
+pub mod Answers
+pub mod VerdictCases
+pub mod Readings
+pub mod Demands

@@ -1,0 +1,48 @@
+-- The specification is read first; then number and places are those of the operation's answer.
+use mathlib.Core.Path.{refl}
+use Rattle.maxeltu.specs.Calls.{minDemandCall}
+use Rattle.maxeltu.proofs.Answers.{after-refusal, not-read, was-read}
+use Rattle.feasibility.specs.Answers.{scheduledAnswer}
+use Rattle.feasibility.specs.Families.{minimumDemandFor}
+use borrow.Author.Needs.{needs}
+use Rattle.maxeltu.proofs.maxeltu_min_demand.Statement.{statement}
+use Rattle.maxeltu.proofs.maxeltu_min_demand.Tie as tie
+
+read-spec-requires : tie.Need-read-spec-requires
+read-spec-requires c κs = search needs
+
+enum-known-read : tie.Need-enum-known-read
+enum-known-read c = search needs
+
+enum-told : tie.Need-enum-told
+enum-told c = search needs
+
+read-number-requires : tie.Need-read-number-requires
+read-number-requires c κs = search needs
+
+returns : tie.Need-returns
+unfolding minDemandCall
+returns c = rw (← not-read (c .before .before .before .read-spec .ensures) (λ s. scheduledAnswer (minimumDemandFor s (c .before .before .before .before .before .args .k))) (c .before .enum-told .given .1) (c .read-number .ensures)) (refl, after-refusal _ _ _ _, after-refusal _ _ _ _, after-refusal _ _ _ _)
+
+min-demand-requires : tie.Need-min-demand-requires
+min-demand-requires c κs = search needs
+
+schedule-answer-requires : tie.Need-schedule-answer-requires
+schedule-answer-requires c κs = search needs
+
+returns-2 : tie.Need-returns-2
+unfolding minDemandCall
+returns-2 c = rw (← was-read (c .before .before .before .before .before .before .before .before .read-spec .ensures) (λ s. scheduledAnswer (minimumDemandFor s (c .before .before .before .before .before .before .before .before .before .before .args .k))) (c .before .before .before .before .before .before .read .given .1), ← c .before .before .before .before .min-demand .ensures) (c .schedule-answer .ensures)
+
+pub maxeltu-min-demand-spec : {M : Type 1} → statement M
+maxeltu-min-demand-spec =
+    tie.close
+    (tie.spec
+    read-spec-requires
+    enum-known-read
+    enum-told
+    read-number-requires
+    returns
+    min-demand-requires
+    schedule-answer-requires
+    returns-2)

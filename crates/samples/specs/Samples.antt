@@ -1,0 +1,196 @@
+-- Document 01, "Samples": those marked ★ as one table, and one proof that the definitions give every value that it prints.
+use Prim.Native.Nat.{ℕ, zero, suc, _+_, _*_}
+use mathlib.Core.Path.{_≡_, refl}
+use mathlib.Core.List.{List, [], _∷_}
+use mathlib.Core.Bool.{Bool, true, false, cond, _&&_}
+use lib.Dec.{eqb}
+use Rattle.spec.specs.declared.Rate.{Rate}
+use Rattle.spec.specs.declared.Rate.the-variants.{Absent, Present}
+use Rattle.spec.specs.declared.Duration.{Duration}
+use Rattle.spec.specs.declared.Duration.the-variants.{Absent as NoDuration, Present as DurationOf}
+use Rattle.spec.specs.declared.Spec.{Spec}
+use Rattle.spec.specs.declared.SpecRead.{SpecRead}
+use Rattle.spec.specs.declared.SpecRead.the-variants.{Accepted, Refused as NotRead}
+use Rattle.spec.specs.Limits.{specNumber, limits, order, rateLimits, durationLimits, durationOrder, sizeAllowed, gapAllowed, gapTop}
+use Rattle.spec.specs.File.{readSpec, judged as judgedSpec}
+use Rattle.schedule.specs.Schedules.{Schedule, sum, minute, heldFrom, stretch}
+use Rattle.plan.specs.declared.Kind.{Kind}
+use Rattle.plan.specs.declared.Kind.the-variants.{WellFormed, Even}
+use Rattle.plan.specs.declared.Plan.{Plan}
+use Rattle.plan.specs.declared.Reported.{Reported}
+use Rattle.plan.specs.declared.Reported.the-variants.{At, Refused as NotReported}
+use Rattle.plan.specs.Plans.{proper, run, kindRun, wellSize, wellGap, evenSize}
+use Rattle.plan.specs.Reports.{reportOf}
+use Rattle.feasibility.specs.declared.Consistency.{Consistency}
+use Rattle.feasibility.specs.declared.Scheduled.{Scheduled}
+use Rattle.feasibility.specs.declared.Scheduled.the-variants.{Found as Scheduled-Found, Refused as NotScheduled}
+use Rattle.feasibility.specs.declared.Tested.{Tested}
+use Rattle.feasibility.specs.declared.Tested.the-variants.{Passed, Refused as NotPassed, Inconsistent}
+use Rattle.feasibility.specs.Answers.{Answer, consistencyAnswer, scheduledAnswer, testedAnswer}
+use Rattle.feasibility.specs.Consistency.{consistencyOf, conditionsOf, boundsFitRates, sizeFitsBudget, gapFitsDemand, demandFitsDuration, fewestReportsFitBudget, enoughReportsForDemand, supplyCoversDemand, whereRate, whereDuration, ceil}
+use Rattle.feasibility.specs.Families.{minimumDemandFor, maximumSupplyFor, scheduleFor, ifRates, bothRates, ratesFrom, scheduled, exists, planFor, periodFor, totalFor, supplyFigure, required, available, least}
+use Rattle.feasibility.specs.Test.{testOf, testRates, testConditions, testTaken, passes, taken, lastCount, takenUpTo, betterOf, isBetter, familyOf}
+use Rattle.even.specs.declared.EvenPlan.{EvenPlan}
+use Rattle.even.specs.declared.EvenPlan.the-variants.{Found, Refused}
+use Rattle.even.specs.Even.{evenPlan, planOr10, evenPlanAt, evenGap, largest, fits, supplyFits, demandFits, totalOf, countAt, mostIn}
+use Rattle.pairs.specs.declared.Pair.{Pair}
+use Rattle.cycle.specs.Cycles.{pairGap, pairSize, cycleRun, round}
+use Rattle.cycle.specs.Check.{checkNumber, cycleNumber, countAllowed, gapsAllowed, sizesAllowed, supplyKept, demandMet, all}
+
+-- what the document says of a specification; a report is its minute and its size
+pub data Claim : Type 0 where
+  isConsistent : Claim
+  minimumDemand : (k period total required : ℕ) → Claim
+  minimumDemandReports : (k : ℕ) (minutes sizes : List ℕ) → Claim
+  maximumSupply : (k period total available : ℕ) → Claim
+  testPasses : (k period total supply : ℕ) → Claim
+  testRefuses : (number : ℕ) → Claim
+  evenGives : (gap k total : ℕ) → Claim
+  evenReports : (minutes sizes : List ℕ) → Claim
+  evenRefuses : (number : ℕ) → Claim
+  cycleGets : (cycle : List Pair) (number : ℕ) → Claim
+  isReadFrom : (file : List ℕ) → Claim
+
+-- the same numbers
+same : List ℕ → List ℕ → Bool
+same [] [] = true
+same (x ∷ xs) (y ∷ ys) = eqb x y && same xs ys
+same [] (y ∷ ys) = false
+same (x ∷ xs) [] = false
+
+answerIs : Answer → ℕ → List ℕ → Bool
+answerIs a number values = eqb (a .number) number && same (a .values) values
+
+-- report i and those after it
+reportIs : Reported → ℕ → ℕ → Bool
+reportIs (At m d) minute size = eqb m minute && eqb d size
+reportIs (NotReported n) minute size = false
+
+reportsAre : Plan → ℕ → List ℕ → List ℕ → Bool
+reportsAre p i [] [] = true
+reportsAre p i (m ∷ ms) (d ∷ ds) = reportIs (reportOf p i) m d && reportsAre p (i + 1) ms ds
+reportsAre p i [] (d ∷ ds) = false
+reportsAre p i (m ∷ ms) [] = false
+
+scheduleReports : Scheduled → List ℕ → List ℕ → Bool
+scheduleReports (Scheduled-Found p v) minutes sizes = reportsAre p 0 minutes sizes
+scheduleReports (NotScheduled n) minutes sizes = false
+
+isEven : Kind → Bool
+isEven WellFormed = false
+isEven Even = true
+
+evenIs : EvenPlan → ℕ → ℕ → ℕ → Bool
+evenIs (Found p) gap k total = isEven (p .kind) && eqb (p .count) k && eqb (p .period) (k * gap) && eqb (p .total) total
+evenIs (Refused n) gap k total = false
+
+evenReportsAre : EvenPlan → List ℕ → List ℕ → Bool
+evenReportsAre (Found p) minutes sizes = reportsAre p 0 minutes sizes
+evenReportsAre (Refused n) minutes sizes = false
+
+evenRefusal : EvenPlan → ℕ → Bool
+evenRefusal (Found p) number = false
+evenRefusal (Refused n) number = eqb n number
+
+sameRate : Rate → Rate → Bool
+sameRate Absent Absent = true
+sameRate (Present n m) (Present n′ m′) = eqb n n′ && eqb m m′
+sameRate Absent (Present n m) = false
+sameRate (Present n m) Absent = false
+
+sameDuration : Duration → Duration → Bool
+sameDuration NoDuration NoDuration = true
+sameDuration (DurationOf n m) (DurationOf n′ m′) = eqb n n′ && eqb m m′
+sameDuration NoDuration (DurationOf n m) = false
+sameDuration (DurationOf n m) NoDuration = false
+
+readTo : SpecRead → Spec → Bool
+readTo (Accepted r) s =
+    same (r .dmin ∷ r .dmax ∷ r .smin ∷ r .smax ∷ []) (s .dmin ∷ s .dmax ∷ s .smin ∷ s .smax ∷ [])
+    && sameRate (r .supply) (s .supply)
+    && sameRate (r .demand) (s .demand)
+    && sameDuration (r .duration) (s .duration)
+readTo (NotRead n) s = false
+
+claimHolds : Spec → Claim → Bool
+claimHolds s isConsistent = answerIs (consistencyAnswer (consistencyOf s)) 0 []
+claimHolds s (minimumDemand k π δ v) = answerIs (scheduledAnswer (minimumDemandFor s k)) 0 (k ∷ π ∷ δ ∷ v ∷ [])
+claimHolds s (minimumDemandReports k minutes sizes) = scheduleReports (minimumDemandFor s k) minutes sizes
+claimHolds s (maximumSupply k π δ v) = answerIs (scheduledAnswer (maximumSupplyFor s k)) 0 (k ∷ π ∷ δ ∷ v ∷ [])
+claimHolds s (testPasses k π δ v) = answerIs (testedAnswer (testOf s)) 0 (k ∷ π ∷ δ ∷ v ∷ [])
+claimHolds s (testRefuses n) = answerIs (testedAnswer (testOf s)) n []
+claimHolds s (evenGives g k δ) = evenIs (evenPlan s) g k δ
+claimHolds s (evenReports minutes sizes) = evenReportsAre (evenPlan s) minutes sizes
+claimHolds s (evenRefuses n) = evenRefusal (evenPlan s) n
+claimHolds s (cycleGets c n) = eqb (checkNumber s c) n
+claimHolds s (isReadFrom file) = readTo (readSpec file) s
+
+claimsHold : Spec → List Claim → Bool
+claimsHold s [] = true
+claimsHold s (c ∷ cs) = claimHolds s c && claimsHold s cs
+
+-- "Written (sizes), (gaps), (B, R), (L, P)."
+pub record Sample : Type 0 where
+  pub spec : Spec
+  pub claims : List Claim
+
+pub sample : (dmin dmax smin smax b r l p : ℕ) → List Claim → Sample
+sample dmin dmax smin smax b r l p cs = record {
+  spec = record {
+    dmin = dmin;
+    dmax = dmax;
+    smin = smin;
+    smax = smax;
+    supply = Present b r;
+    demand = Present l p;
+    duration = NoDuration;
+  };
+  claims = cs;
+}
+
+-- a cycle with one gap
+pub cycle : (gap : ℕ) → List ℕ → List Pair
+cycle gap [] = []
+cycle gap (d ∷ ds) = record { gap = gap; size = d } ∷ cycle gap ds
+
+pub samples : List Sample
+samples =
+    -- ★A; ★B = 28
+    sample 3 10 45 55 29 220 17 158 (
+    minimumDemand 2 110 17 34
+    ∷ minimumDemand 3 158 17 29
+    ∷ minimumDemandReports 3 (0 ∷ 52 ∷ 105 ∷ []) (6 ∷ 6 ∷ 5 ∷ [])
+    ∷ testPasses 3 158 17 29
+    ∷ evenGives 52 3 17 ∷ [])
+    ∷ sample 3 10 45 55 28 220 17 158 (testRefuses 9 ∷ evenRefuses 10 ∷ [])
+    -- ★B
+    ∷ sample 2 3 5 5 16 26 10 20 (testPasses 4 20 10 16 ∷ minimumDemand 4 20 10 16 ∷ [])
+    -- ★B = 15, its file and the listing of its even plan; ★G
+    ∷ sample 2 3 5 5 15 26 10 20 (
+    isReadFrom (0x0F ∷ 0 ∷ 2 ∷ 0 ∷ 3 ∷ 0 ∷ 5 ∷ 0 ∷ 5 ∷ 0 ∷ 0x0F ∷ 0 ∷ 0x1A ∷ 0 ∷ 0x0A ∷ 0 ∷ 0x14 ∷ [])
+    ∷ testRefuses 9
+    ∷ evenGives 5 4 10
+    ∷ evenReports (0 ∷ 5 ∷ 10 ∷ 15 ∷ []) (2 ∷ 3 ∷ 2 ∷ 3 ∷ [])
+    ∷ cycleGets (cycle 5 (3 ∷ 2 ∷ [])) 0
+    ∷ cycleGets (cycle 5 (3 ∷ 3 ∷ 2 ∷ 2 ∷ [])) 15
+    ∷ cycleGets (cycle 5 (2 ∷ 2 ∷ 2 ∷ 3 ∷ [])) 16 ∷ [])
+    -- ★B = 14
+    ∷ sample 2 3 5 5 14 26 10 20 (evenRefuses 10 ∷ [])
+    -- ★C
+    ∷ sample 5 6 45 46 10 79 17 159 (maximumSupply 2 90 10 15 ∷ testRefuses 9 ∷ evenRefuses 10 ∷ [])
+    -- ★D
+    ∷ sample 3 5 35 46 10 79 17 158 (maximumSupply 2 79 10 20 ∷ testPasses 2 79 10 20 ∷ evenRefuses 10 ∷ [])
+    -- ★E
+    ∷ sample 3 10 45 80 10 79 17 159 (maximumSupply 1 79 10 20 ∷ testPasses 1 79 10 20 ∷ [])
+    -- ★F
+    ∷ sample 5 5 4 4 10 10 5 20 (isConsistent ∷ testRefuses 8 ∷ [])
+    ∷ []
+
+pub samplesHold : List Sample → Bool
+samplesHold [] = true
+samplesHold (x ∷ xs) = claimsHold (x .spec) (x .claims) && samplesHold xs
+
+-- Every value of the table is what the definitions compute.
+pub samples-hold : samplesHold samples ≡ true
+unfolding samplesHold samples sample cycle claimsHold claimHolds same answerIs reportIs reportsAre scheduleReports isEven evenIs evenReportsAre evenRefusal sameRate sameDuration readTo specNumber limits order rateLimits durationLimits durationOrder sizeAllowed gapAllowed gapTop readSpec judgedSpec sum minute heldFrom stretch proper run kindRun wellSize wellGap evenSize reportOf consistencyOf conditionsOf boundsFitRates sizeFitsBudget gapFitsDemand demandFitsDuration fewestReportsFitBudget enoughReportsForDemand supplyCoversDemand whereRate whereDuration ceil scheduleFor ifRates bothRates ratesFrom scheduled exists planFor periodFor totalFor supplyFigure required available least testOf testRates testConditions testTaken passes taken lastCount takenUpTo betterOf isBetter familyOf evenPlan planOr10 evenPlanAt evenGap largest fits supplyFits demandFits totalOf countAt mostIn pairGap pairSize cycleRun round checkNumber cycleNumber countAllowed gapsAllowed sizesAllowed supplyKept demandMet all
+samples-hold = refl

@@ -1,0 +1,212 @@
+// The marked samples of document 01. specs/Samples.antt has them as one table, with one proof that the definitions give every value;
+// this program runs the same samples through the functions, and what it prints is compared with the file `stdout`.
+use even::EvenPlan;
+use feasibility::Scheduled;
+use feasibility::Tested;
+use libc::STDOUT_FILENO;
+use plan::Plan;
+use plan::Reported;
+use spec::Duration;
+use spec::Rate;
+use spec::Spec;
+use spec::SpecRead;
+
+// "Written (sizes), (gaps), (B, R), (L, P)."
+fn sample(sizes: [u16; 2], gaps: [u16; 2], supply: [u16; 2], demand: [u16; 2]) -> Spec {
+    Spec {
+        dmin: sizes[0],
+        dmax: sizes[1],
+        smin: gaps[0],
+        smax: gaps[1],
+        supply: Rate::Present {
+            records: supply[0],
+            minutes: supply[1],
+        },
+        demand: Rate::Present {
+            records: demand[0],
+            minutes: demand[1],
+        },
+        duration: Duration::Absent,
+    }
+}
+
+fn text(t: &[u8]) {
+    io::write_all(STDOUT_FILENO, t);
+}
+
+fn number(n: u64) {
+    text(b" ");
+    io::print_decimal(STDOUT_FILENO, n);
+}
+
+fn end() {
+    text(b"\n");
+}
+
+fn refused(n: u32) {
+    text(b" refused");
+    number(n as u64);
+    end();
+}
+
+// k, period and total.
+fn numbers_of(p: Plan) {
+    number(p.count as u64);
+    number(p.period as u64);
+    number(p.total as u64);
+}
+
+fn report(p: Plan, i: u32) {
+    let found = plan::report(p, i);
+    match found {
+        Reported::At { minute, size } => {
+            number(minute);
+            number(size as u64);
+        }
+        Reported::Refused(n) => {
+            number(n as u64);
+        }
+    }
+}
+
+// Minutes and sizes of the first four reports.
+fn reports(p: Plan) {
+    text(b"  reports");
+    report(p, 0);
+    report(p, 1);
+    report(p, 2);
+    report(p, 3);
+    end();
+}
+
+fn schedule(s: Scheduled) {
+    match s {
+        Scheduled::Found { plan: p, supply } => {
+            numbers_of(p);
+            number(supply as u64);
+            end();
+            reports(p);
+        }
+        Scheduled::Refused(n) => {
+            refused(n);
+        }
+    }
+}
+
+fn minimum_demand(s: Spec, k: u32) {
+    text(b"  minimum demand");
+    schedule(feasibility::min_demand(s, k));
+}
+
+fn maximum_supply(s: Spec, k: u32) {
+    text(b"  maximum supply");
+    schedule(feasibility::max_supply(s, k));
+}
+
+fn consistency(s: Spec) {
+    text(b"  consistency");
+    number(feasibility::consistency_number(feasibility::consistency_of(s)) as u64);
+    end();
+}
+
+fn test(s: Spec) {
+    text(b"  test");
+    let found = feasibility::test(s);
+    match found {
+        Tested::Passed { plan: p, supply } => {
+            numbers_of(p);
+            number(supply as u64);
+            end();
+        }
+        Tested::Inconsistent(c) => {
+            text(b" inconsistent");
+            number(feasibility::condition_number(c) as u64);
+            end();
+        }
+        Tested::Refused(n) => {
+            refused(n);
+        }
+    }
+}
+
+fn even_plan(s: Spec) {
+    text(b"  even plan");
+    let found = even::even_plan(s);
+    match found {
+        EvenPlan::Found(p) => {
+            numbers_of(p);
+            end();
+            reports(p);
+        }
+        EvenPlan::Refused(n) => {
+            refused(n);
+        }
+    }
+}
+
+// The number of a cycle: gap, size, gap, size, ..
+fn cycle(s: Spec, words: &[u16]) {
+    text(b"  cycle");
+    number(cycle::check(s, words) as u64);
+    end();
+}
+
+fn sample_a() {
+    text(b"A\n");
+    let s = sample([3, 10], [45, 55], [29, 220], [17, 158]);
+    minimum_demand(s, 2);
+    minimum_demand(s, 3);
+    test(s);
+    even_plan(s);
+    text(b"A with B = 28\n");
+    let less = sample([3, 10], [45, 55], [28, 220], [17, 158]);
+    test(less);
+    even_plan(less);
+}
+
+fn sample_b() {
+    text(b"B\n");
+    test(sample([2, 3], [5, 5], [16, 26], [10, 20]));
+    text(b"B with B = 14\n");
+    even_plan(sample([2, 3], [5, 5], [14, 26], [10, 20]));
+}
+
+// B with 15, from its file, and the cycles of G.
+fn sample_g() {
+    text(b"B with B = 15, G\n");
+    let file = [15u8, 0, 2, 0, 3, 0, 5, 0, 5, 0, 15, 0, 26, 0, 10, 0, 20];
+    let read = spec::read_spec(&file);
+    let SpecRead::Accepted(s) = read else {
+        return;
+    };
+    test(s);
+    even_plan(s);
+    cycle(s, &[5, 3, 5, 2]);
+    cycle(s, &[5, 3, 5, 3, 5, 2, 5, 2]);
+    cycle(s, &[5, 2, 5, 2, 5, 2, 5, 3]);
+}
+
+fn samples_c_to_f() {
+    text(b"C\n");
+    let c = sample([5, 6], [45, 46], [10, 79], [17, 159]);
+    maximum_supply(c, 2);
+    test(c);
+    even_plan(c);
+    text(b"D\n");
+    let d = sample([3, 5], [35, 46], [10, 79], [17, 158]);
+    test(d);
+    even_plan(d);
+    text(b"E\n");
+    test(sample([3, 10], [45, 80], [10, 79], [17, 159]));
+    text(b"F\n");
+    let f = sample([5, 5], [4, 4], [10, 10], [5, 20]);
+    consistency(f);
+    test(f);
+}
+
+fn main() {
+    sample_a();
+    sample_b();
+    sample_g();
+    samples_c_to_f();
+}
