@@ -14,9 +14,9 @@ use Rattle.plan.specs.declared.Kind.the-variants.{WellFormed}
 use Rattle.plan.specs.declared.Plan.{Plan}
 use Rattle.plan.specs.Plans.{proper, run, kindRun}
 use Rattle.plan.proofs.Proper.{ProperBounds, proper-bounds}
-use Rattle.plan.proofs.WellFormed.{wellRun, size-total, size-range, period-total, holds-most, holds-least, first-period, back-thinnest, front-fullest}
+use Rattle.plan.proofs.WellFormed.{wellRun, size-total, size-range, period-total, holds-most, holds-least, first-period, back-thinnest, front-fullest, no-gap-zero, size-again, gap-again, period-end}
 use Rattle.feasibility.specs.Families.{required, least, available}
-use Rattle.feasibility.proofs.Fronts.{reportsBefore, recordsOf, front, no-gap-zero, size-again, gap-again, period-end}
+use Rattle.feasibility.proofs.Fronts.{reportsBefore, recordsOf, front}
 
 -- the least of f 0, .., f n is at most each of them, and at least whatever is at most all
 least-le : (f : ℕ → ℕ) (n i : ℕ) → i ≤ n → least f n ≤ f i

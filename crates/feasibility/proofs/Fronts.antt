@@ -3,7 +3,7 @@
 -- later. So it is before minute x exactly when i is below two quotients rounded up, and below the smaller of them.
 use Prim.Native.Nat.{ℕ, _+_, _-_, _*_, _/_, _%_, _≤_, _<_, min}
 use native.Mathlib.Omega.{arith}
-use native.Mathlib.Nat.{mod-lt, div-eq-of-lt, mod-eq-of-lt, div-add-mod, mul-add, mul-one, one-mul, zero-mul, zero-add, sub-zero, mul-comm, le-mul-of-pos-right, add-mod-right, le-div-iff-mul-le}
+use native.Mathlib.Nat.{mod-lt, div-eq-of-lt, mod-eq-of-lt, div-add-mod, mul-add, mul-one, one-mul, zero-mul, zero-add, sub-zero, le-div-iff-mul-le}
 use mathlib.Core.Path.{_≡_, sym, _∙_}
 use mathlib.Core.Logic.{_↔_, ⊎-elim}
 use Rattle.schedule.specs.Schedules.{Schedule, sum, minute, stretch}
@@ -11,7 +11,7 @@ use Rattle.schedule.proofs.Sums.{lt-cases, sum-block}
 use Rattle.schedule.proofs.Stretches.{stretch-block}
 use Rattle.schedule.proofs.Before.{minute-mono, minute-least}
 use Rattle.plan.specs.Plans.{wellSize, wellGap}
-use Rattle.plan.proofs.WellFormed.{wellRun, size-total, size-sum, gap-total, gap-sum, gap-range}
+use Rattle.plan.proofs.WellFormed.{wellRun, size-total, size-sum, gap-total, gap-sum, no-gap-zero, period-end}
 use Rattle.feasibility.specs.Consistency.{ceil}
 use Rattle.feasibility.proofs.Ceilings.{lt-ceil-iff}
 
@@ -45,21 +45,6 @@ module _ (k : ℕ) (pos : 0 < k) where
     abbrev s : Schedule
     s = wellRun k π δ
 
-    pub no-gap-zero : (i : ℕ) → 1 ≤ s .gap i
-    no-gap-zero i = gap-range k pos π 1 π (omega (arith, mul-one k)) (rw mul-comm (le-mul-of-pos-right π pos)) i .0
-
-    pub period-end : minute s k ≡ π
-    unfolding minute
-    period-end = gap-total k pos π
-
-    pub size-again : (i : ℕ) → s .size (i + k) ≡ s .size i
-    unfolding wellSize
-    size-again i = rw add-mod-right
-
-    pub gap-again : (i : ℕ) → s .gap (i + k) ≡ s .gap i
-    unfolding wellGap
-    gap-again i = rw add-mod-right
-
     within : (x i : ℕ) → i ≤ k → (minute s i < x) ↔ (i < reportsBefore k π x)
     unfolding minute reportsBefore
     within x i h =
@@ -74,12 +59,12 @@ module _ (k : ℕ) (pos : 0 < k) where
 
     module _ (x : ℕ) (part : x ≤ π) where
       few : reportsBefore k π x ≤ k
-      few = ⊎-elim (λ q. absurd (let r = within x k (omega arith) .1 q in omega (arith, period-end))) (λ q. q) (lt-cases k (reportsBefore k π x))
+      few = ⊎-elim (λ q. absurd (let r = within x k (omega arith) .1 q in omega (arith, period-end k pos π δ long))) (λ q. q) (lt-cases k (reportsBefore k π x))
 
       before-front : (i : ℕ) → (minute s i < x) ↔ (i < reportsBefore k π x)
       before-front i =
           ⊎-elim
-          (λ q. (λ r. absurd (omega (arith, minute-mono s k i (omega arith), period-end)), λ r. absurd (omega (arith, few))))
+          (λ q. (λ r. absurd (omega (arith, minute-mono s k i (omega arith), period-end k pos π δ long)), λ r. absurd (omega (arith, few))))
           (λ q. within x i q)
           (lt-cases k i)
 
@@ -88,7 +73,7 @@ module _ (k : ℕ) (pos : 0 < k) where
 
       in-minutes : reportsBefore k π x ≤ x
       in-minutes =
-          ⊎-elim (λ q. absurd (let r = before-front x .1 q in omega (arith, minute-least s no-gap-zero x))) (λ q. q) (lt-cases x (reportsBefore k π x))
+          ⊎-elim (λ q. absurd (let r = before-front x .1 q in omega (arith, minute-least s (no-gap-zero k pos π δ long) x))) (λ q. q) (lt-cases x (reportsBefore k π x))
 
       pub front : stretch s 0 x ≡ recordsOf k δ (reportsBefore k π x)
       front =

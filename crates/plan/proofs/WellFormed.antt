@@ -103,62 +103,62 @@ module _ (k : ℕ) (pos : 0 < k) where
     abbrev s : Schedule
     s = wellRun k π δ
 
-    later : (i : ℕ) → 1 ≤ s .gap i
-    later i = gap-range π 1 π (omega arith) (le-mul π) i .0
+    pub no-gap-zero : (i : ℕ) → 1 ≤ s .gap i
+    no-gap-zero i = gap-range π 1 π (omega arith) (le-mul π) i .0
       where
         le-mul : (n : ℕ) → n ≤ k * n
         le-mul n = rw mul-comm (le-mul-of-pos-right n pos)
 
-    size-again : (i : ℕ) → s .size (i + k) ≡ s .size i
+    pub size-again : (i : ℕ) → s .size (i + k) ≡ s .size i
     unfolding wellSize
     size-again i = rw add-mod-right
 
-    gap-again : (i : ℕ) → s .gap (i + k) ≡ s .gap i
+    pub gap-again : (i : ℕ) → s .gap (i + k) ≡ s .gap i
     unfolding wellGap
     gap-again i = rw add-mod-right
 
-    period : minute s k ≡ π
+    pub period-end : minute s k ≡ π
     unfolding minute
-    period = gap-total π
+    period-end = gap-total π
 
     -- no stretch has more reports than the first of its length, nor holds more
-    reports : (a w : ℕ) → before s later (a + w) ≤ before s later a + before s later w
+    reports : (a w : ℕ) → before s no-gap-zero (a + w) ≤ before s no-gap-zero a + before s no-gap-zero w
     unfolding minute
     reports a w =
         ⊎-elim
         (λ h.
         absurd
-        (let r = before-iff s later (a + w) (before s later a + before s later w) .1 h in
-        omega (arith, gap-super π (before s later a) (before s later w), before-reach s later a, before-reach s later w)))
+        (let r = before-iff s no-gap-zero (a + w) (before s no-gap-zero a + before s no-gap-zero w) .1 h in
+        omega (arith, gap-super π (before s no-gap-zero a) (before s no-gap-zero w), before-reach s no-gap-zero a, before-reach s no-gap-zero w)))
         (λ h. h)
-        (lt-cases (before s later a + before s later w) (before s later (a + w)))
+        (lt-cases (before s no-gap-zero a + before s no-gap-zero w) (before s no-gap-zero (a + w)))
 
-    first : (w : ℕ) → stretch s 0 w ≡ sum (s .size) (before s later w)
+    first : (w : ℕ) → stretch s 0 w ≡ sum (s .size) (before s no-gap-zero w)
     first w =
-        let z : before s later 0 ≡ 0 = omega (arith, before-le s later 0) in
-        rw (stretch-before s later 0 w, z, zero-add, sub-zero, sum-block (s .size) (before s later w))
+        let z : before s no-gap-zero 0 ≡ 0 = omega (arith, before-le s no-gap-zero 0) in
+        rw (stretch-before s no-gap-zero 0 w, z, zero-add, sub-zero, sum-block (s .size) (before s no-gap-zero w))
 
     pub front-fullest : (a w : ℕ) → stretch s a w ≤ stretch s 0 w
     front-fullest a w =
-        let j = before s later a in
-        let n = before s later w in
-        let u : block (s .size) j (before s later (a + w) - j) ≤ block (s .size) j n = block-part (s .size) j _ n (omega (arith, reports a w)) in
-        rw (stretch-before s later a w, first w) (le-trans u (omega (arith, sum-add (s .size) j n, size-sub δ j n)))
+        let j = before s no-gap-zero a in
+        let n = before s no-gap-zero w in
+        let u : block (s .size) j (before s no-gap-zero (a + w) - j) ≤ block (s .size) j n = block-part (s .size) j _ n (omega (arith, reports a w)) in
+        rw (stretch-before s no-gap-zero a w, first w) (le-trans u (omega (arith, sum-add (s .size) j n, size-sub δ j n)))
 
     -- a period holds δ
     pub period-total : (a : ℕ) → stretch s a π ≡ δ
     period-total a =
-        rw (period, size-total δ) at (stretch-round s later k size-again gap-again a)
+        rw (period-end, size-total δ) at (stretch-round s no-gap-zero k size-again gap-again a)
 
     pub holds-most : (a w : ℕ) → w ≤ π → stretch s a w ≤ δ
-    holds-most a w h = omega (arith, stretch-longer s later a w π h, period-total a)
+    holds-most a w h = omega (arith, stretch-longer s no-gap-zero a w π h, period-total a)
 
     pub holds-least : (a w : ℕ) → π ≤ w → δ ≤ stretch s a w
-    holds-least a w h = omega (arith, stretch-longer s later a π w h, period-total a)
+    holds-least a w h = omega (arith, stretch-longer s no-gap-zero a π w h, period-total a)
 
     -- every stretch is like one that starts in the first period
     pub first-period : (a w : ℕ) → stretch s a w ≡ stretch s (a % π) w
-    first-period a w = rw period at (stretch-first s later k size-again gap-again a w)
+    first-period a w = rw period-end at (stretch-first s no-gap-zero k size-again gap-again a w)
 
     -- The thinnest stretch of its length is the one that ends with a period.
     module _ (w u : ℕ) (fits : w ≤ u * π) where
@@ -166,56 +166,56 @@ module _ (k : ℕ) (pos : 0 < k) where
       t₀ = u * π - w
 
       j₀ : ℕ
-      j₀ = before s later t₀
+      j₀ = before s no-gap-zero t₀
 
       -- u × k reports are before minute u × π
-      whole : before s later (u * π) ≡ u * k
+      whole : before s no-gap-zero (u * π) ≡ u * k
       unfolding minute
       whole =
           let e : sum (s .gap) (u * k) ≡ u * π =
           rw (zero-add, sum-none (s .gap), zero-add, gap-total π) at (sum-rounds (s .gap) k gap-again 0 u) in
-          rw e at (before-minute s later (u * k))
+          rw e at (before-minute s no-gap-zero (u * k))
 
       last : stretch s t₀ w ≡ block (s .size) j₀ (u * k - j₀)
       unfolding t₀ j₀
       last =
           let e : u * π - w + w ≡ u * π = omega arith in
-          rw (stretch-before s later t₀ w, e, whole)
+          rw (stretch-before s no-gap-zero t₀ w, e, whole)
 
       within : j₀ ≤ u * k
       unfolding t₀ j₀
-      within = rw whole at (before-mono s later t₀ (u * π) (omega arith))
+      within = rw whole at (before-mono s no-gap-zero t₀ (u * π) (omega arith))
 
       -- any stretch has as many reports
-      as-many : (a : ℕ) → 0 < before s later a → before s later a + (u * k - j₀) ≤ before s later (a + w)
+      as-many : (a : ℕ) → 0 < before s no-gap-zero a → before s no-gap-zero a + (u * k - j₀) ≤ before s no-gap-zero (a + w)
       unfolding minute t₀ j₀
-      as-many a p = ⊎-elim (λ h. absurd (over h)) (λ h. h) (lt-cases (before s later (a + w)) (before s later a + (u * k - j₀)))
+      as-many a p = ⊎-elim (λ h. absurd (over h)) (λ h. h) (lt-cases (before s no-gap-zero (a + w)) (before s no-gap-zero a + (u * k - j₀)))
         where
-          over : before s later (a + w) < before s later a + (u * k - j₀) → ⊥
+          over : before s no-gap-zero (a + w) < before s no-gap-zero a + (u * k - j₀) → ⊥
           over h =
-              let i = before s later a - 1 in
+              let i = before s no-gap-zero a - 1 in
               let n = u * k - j₀ in
-              let m : minute s i < a = before-iff s later a i .1 (omega arith) in
+              let m : minute s i < a = before-iff s no-gap-zero a i .1 (omega arith) in
               let e : j₀ + (i + n) ≡ i + u * k = omega (arith, within) in
               let g : sum (s .gap) j₀ + sum (s .gap) (i + n) ≤ sum (s .gap) i + u * π =
               rw (e, sum-rounds (s .gap) k gap-again i u, gap-total π) at (gap-super π j₀ (i + n)) in
-              let r : a + w ≤ sum (s .gap) (i + n) = le-trans (before-reach s later (a + w)) (minute-mono s (before s later (a + w)) (i + n) (omega arith)) in
-              omega (arith, before-reach s later t₀)
+              let r : a + w ≤ sum (s .gap) (i + n) = le-trans (before-reach s no-gap-zero (a + w)) (minute-mono s (before s no-gap-zero (a + w)) (i + n) (omega arith)) in
+              omega (arith, before-reach s no-gap-zero t₀)
 
-      least-later : (a : ℕ) → 0 < before s later a → stretch s t₀ w ≤ stretch s a w
+      least-later : (a : ℕ) → 0 < before s no-gap-zero a → stretch s t₀ w ≤ stretch s a w
       least-later a p =
-          let j = before s later a in
+          let j = before s no-gap-zero a in
           let n = u * k - j₀ in
-          let v : block (s .size) j n ≤ block (s .size) j (before s later (a + w) - j) = block-part (s .size) j n _ (omega (arith, as-many a p)) in
+          let v : block (s .size) j n ≤ block (s .size) j (before s no-gap-zero (a + w) - j) = block-part (s .size) j n _ (omega (arith, as-many a p)) in
           let x : j₀ + (j + n) ≡ j + u * k = omega (arith, within) in
           let y : j₀ + n ≡ 0 + u * k = omega (arith, within) in
           let c : sum (s .size) (j + u * k) ≤ sum (s .size) j₀ + sum (s .size) (j + n) = rw x at (size-sub δ j₀ (j + n)) in
           let d : sum (s .size) (0 + u * k) ≡ sum (s .size) j₀ + block (s .size) j₀ n = rw y at (sum-add (s .size) j₀ n) in
-          rw (last, stretch-before s later a w)
+          rw (last, stretch-before s no-gap-zero a w)
           (omega (arith, sum-rounds (s .size) k size-again j u, sum-rounds (s .size) k size-again 0 u, sum-none (s .size), sum-add (s .size) j n))
 
       pub back-thinnest : (a : ℕ) → stretch s (u * π - w) w ≤ stretch s a w
       unfolding t₀
       back-thinnest a =
           let e : stretch s (a + π) w ≡ stretch s a w = first-period (a + π) w ∙ ap (λ (x : ℕ). stretch s x w) (add-mod-right a π) ∙ sym (first-period a w) in
-          rw e at (least-later (a + π) (before-iff s later (a + π) 0 .0 (omega (arith, minute-none s))))
+          rw e at (least-later (a + π) (before-iff s no-gap-zero (a + π) 0 .0 (omega (arith, minute-none s))))
