@@ -35,7 +35,7 @@ struct Cursor {
 }
 
 // What reading one pair gives: the pair and how many bytes it takes, or a refusal.
-enum PairRead {
+pub enum PairRead {
     Taken(Pair, usize),
     Stopped(u32),
 }
