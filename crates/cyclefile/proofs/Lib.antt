@@ -4,5 +4,7 @@ pub mod OnePair
 pub mod PairByPair
 pub mod WholeFile
 pub mod StoredBytes
+pub mod FlatForms
 pub mod PairForms
 pub mod RoundTrip
+pub mod Worked
