@@ -8,3 +8,4 @@ pub mod FlatForms
 pub mod PairForms
 pub mod RoundTrip
 pub mod Worked
+pub mod WrittenBytes

@@ -1,7 +1,7 @@
 -- What is proved of the cycle file as a whole, for every cycle and every file (`proofs/RoundTrip`).
 use Prim.Native.Nat.{ℕ, _≤_, _<_}
 use mathlib.Core.Path.{_≡_}
-use mathlib.Core.List.{List}
+use mathlib.Core.List.{List, [], _∷_}
 use lib.ListN.{length, getD}
 use Rattle.pairs.specs.declared.Pair.{Pair}
 use Rattle.cyclefile.specs.File.{pairs, cycleBytes, readCycle}
@@ -21,3 +21,12 @@ WritesBack = (places : ℕ) (file : List ℕ) (ps : List Pair) → AreBytes file
 -- what is read is a cycle, and has its places
 abbrev pub ReadsCycles : Type 0
 ReadsCycles = (places : ℕ) (file : List ℕ) (ps : List Pair) → readCycle places file ≡ pairs ps → (1 ≤ length ps) × (length ps ≤ 512) × (length ps ≤ places)
+
+-- each number of each pair has 16 bits
+abbrev pub Words : List Pair → Type 0
+Words [] = Unit {0}
+Words (p ∷ ps) = (p .gap < 65536) × ((p .size < 65536) × Words ps)
+
+-- what is written is a file: every byte of it is one
+abbrev pub WritesBytes : Type 0
+WritesBytes = (ps : List Pair) → length ps ≤ 512 → Words ps → AreBytes (cycleBytes ps)

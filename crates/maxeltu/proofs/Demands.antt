@@ -25,6 +25,7 @@ use Rattle.cycle.specs.Cycles.{cycleRun}
 use Rattle.cycle.proofs.CyclesPassed.{passed-obeys}
 use Rattle.cyclefile.specs.File.{CycleRead, pairs, refused, readCycle, writeNumber, placesAfter, bytesAfter}
 use Rattle.cyclefile.proofs.RoundTrip.{reads-back, writes-back, reads-cycles}
+use Rattle.cyclefile.proofs.WrittenBytes.{writes-bytes}
 use Rattle.maxeltu.specs.Verdict.{verdictRead, verdictOf}
 use Rattle.maxeltu.specs.Demands.{Demands}
 use Rattle.maxeltu.proofs.Readings.{SpecIsRead, spec-is-read, CycleRefusal, cycle-numbered}
@@ -89,6 +90,7 @@ demands = record {
   test-best = λ s q p v rates e. test-passes s q p v rates .0 e .1;
   every-report = report-is;
   reads-back = reads-back;
+  written-bytes = writes-bytes;
   writes-back = writes-back;
   cycle-passed = passed-obeys;
   test-obeys = test-sound;

@@ -30,7 +30,7 @@ use Rattle.pairs.specs.declared.Pair.{Pair}
 use Rattle.cycle.specs.Cycles.{cycleRun}
 use Rattle.cycle.specs.Check.{checkNumber}
 use Rattle.cyclefile.specs.File.{pairs, refused, cycleBytes, readCycle, writeNumber, placesAfter, bytesAfter}
-use Rattle.cyclefile.specs.Statements.{AreBytes}
+use Rattle.cyclefile.specs.Statements.{AreBytes, Words}
 use Rattle.maxeltu.specs.Verdict.{verdictOf}
 
 pub record Demands : Type 0 where
@@ -60,6 +60,8 @@ pub record Demands : Type 0 where
   pub every-report : (p : Plan) (i : ℕ) → proper p ≡ true → reportOf p i ≡ At (minute (run p) i) (run p .size i)
   -- a written cycle reads back as itself
   pub reads-back : (places : ℕ) (c : List Pair) → 1 ≤ length c → length c ≤ 512 → length c ≤ places → readCycle places (cycleBytes c) ≡ pairs c
+  -- what is written of 16-bit numbers is made of bytes
+  pub written-bytes : (c : List Pair) → length c ≤ 512 → Words c → AreBytes (cycleBytes c)
   -- a file that is read is the one that the writer makes of its contents
   pub writes-back : (places : ℕ) (file : List ℕ) (c : List Pair) → AreBytes file → readCycle places file ≡ pairs c → cycleBytes c ≡ file
   -- 3. For every accepted specification:

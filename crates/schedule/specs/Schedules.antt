@@ -28,7 +28,8 @@ heldFrom s a e (suc n) i t =
 -- What the stretch of w minutes from a holds: minutes a to a + w - 1.
 -- "A gap of 0 is below every range, so no stretch need be summed there": where no gap is 0, report i is at minute i or later,
 -- so every report of those minutes is among the first a + w. It walks the reports with their minutes carried along, so that
--- it computes; `stretch-sum` of proofs/StretchSum.antt says that it is the plain sum below.
+-- it computes; `stretch-sum` and `stretch-sum-all` of proofs/StretchSum.antt say that it is the plain sum of what the reports
+-- add, over that many reports or any number more.
 unfoldable pub stretch : Schedule → ℕ → ℕ → ℕ
 stretch s a w = heldFrom s a (a + w) (a + w) 0 0
 
