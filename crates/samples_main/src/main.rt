@@ -1,5 +1,5 @@
-// The marked samples of document 01. specs/Samples.antt has them as one table, with one proof that the definitions give every value;
-// this program runs the same samples through the functions, and what it prints is compared with the file `stdout`.
+// The marked samples of document 01, run through the functions: what this program prints is compared with the file `stdout`. Crate
+// `samples` has the same samples as a table, with one proof that the definitions give every value.
 use even::EvenPlan;
 use feasibility::Scheduled;
 use feasibility::Tested;
