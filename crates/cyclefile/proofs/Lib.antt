@@ -3,6 +3,8 @@ pub mod LaidOver
 pub mod OnePair
 pub mod PairByPair
 pub mod WholeFile
+pub mod PlainSteps
+pub mod Parsing
 pub mod StoredBytes
 pub mod FlatForms
 pub mod PairForms

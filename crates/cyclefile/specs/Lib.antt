@@ -1,4 +1,5 @@
 pub mod Refusals
 pub mod File
 pub mod Steps
+pub mod OnePass
 pub mod Statements

@@ -11,6 +11,9 @@ use crate::gap_stands;
 use crate::refusal;
 use crate::size_stands;
 use pairs::Pair;
+
+pub mod one_pass;
+
 ghost use mathlib.Core.Path.{_≡_};
 ghost use Prim.Native.Nat.{_+_, _*_, _/_, _≤_, _<_};
 ghost use mathlib.Core.Bool.{cond};

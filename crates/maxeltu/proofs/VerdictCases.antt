@@ -1,52 +1,57 @@
--- The cases of the loader's call: what the words hold once the cycle's file is read, and what the verdict is by what was read.
-use Prim.Native.Nat.{ℕ, _*_, _/_, _≤_}
+-- The cases of the loader's call: what the words hold once the cycle's file is parsed, and what the verdict is by what was read.
+use Prim.Native.Nat.{ℕ, _*_, _≤_}
 use native.Mathlib.Omega.{arith}
 use mathlib.Core.Path.{_≡_, refl, sym, _∙_, ap}
 use mathlib.Core.List.{List}
-use lib.ListN.{length, take}
+use lib.ListN.{length, take, length-append, length-replicate}
 use lib.Seq.{take-at}
 use Rattle.spec.specs.declared.Spec.{Spec}
 use Rattle.spec.specs.declared.SpecRead.{SpecRead}
 use Rattle.spec.specs.declared.SpecRead.the-variants.{Accepted, Refused as NotRead}
 use Rattle.spec.specs.File.{readSpec, readNumber}
-use Rattle.pairs.specs.Pairs.{pairsOf, flatten}
+use Rattle.pairs.specs.Pairs.{pairsOf, flatten, padded}
 use Rattle.pairs.proofs.FlatLists.{length-flatten, pairsOf-flatten}
 use Rattle.cycle.specs.Check.{checkNumber}
 use Rattle.cyclefile.specs.declared.Judged.{Judged}
 use Rattle.cyclefile.specs.declared.Judged.the-variants.{Count, Refused}
-use Rattle.cyclefile.specs.File.{pairs, refused, readCycle}
-use Rattle.cyclefile.specs.Steps.{judged, wordsAfter, firstPairs}
-use Rattle.cyclefile.proofs.LaidOver.{length-laidOver}
+use Rattle.cyclefile.specs.declared.reading.one_pass.Parsed.{Parsed}
+use Rattle.cyclefile.specs.File.{CycleRead, pairs, refused, readCycle}
+use Rattle.cyclefile.specs.OnePass.{parsedOf}
+use Rattle.cyclefile.specs.Steps.{judged, firstPairs}
 use Rattle.cyclefile.proofs.PairByPair.{length-firstPairs}
 use Rattle.cyclefile.proofs.WholeFile.{counted, not-read}
 use Rattle.maxeltu.specs.Verdict.{verdictRead, verdictOf, judgedNumber}
 
--- A cycle's file was read into 1,024 words, which held `old`: n pairs, which are the first 2 n words.
-module _ (file old new : List ℕ) {answer : Judged} (room : length old ≡ 1024)
-    (says : answer ≡ judged (readCycle (length old / 2) file)) (holds : new ≡ wordsAfter (readCycle (length old / 2) file) old) where
-  half : length old / 2 ≡ 512
-  half = rw room
+parsed-judged : (r : CycleRead) → parsedOf r .judged ≡ judged r
+parsed-judged (pairs ps) = refl
+parsed-judged (refused n) = refl
+
+-- A cycle's file was parsed: n pairs, which are the first 2 n of its 1,024 words, or the refusal.
+module _ (file : List ℕ) {parsed : Parsed} (is : parsed ≡ parsedOf (readCycle 512 file)) where
+  says : parsed .judged ≡ judged (readCycle 512 file)
+  says = ap (λ (p : Parsed). p .judged) is ∙ parsed-judged (readCycle 512 file)
 
   pub record Words (n : ℕ) : Type 0 where
     pub few : n ≤ 512
-    pub long : length new ≡ 1024
-    pub read : readCycle 512 file ≡ pairs (pairsOf (take (2 * n) new))
+    pub long : length (parsed .words) ≡ 1024
+    pub read : readCycle 512 file ≡ pairs (pairsOf (take (2 * n) (parsed .words)))
 
-  pub words-read : {n : ℕ} → answer ≡ Count n → Words n
+  pub words-read : {n : ℕ} → parsed .judged ≡ Count n → Words n
+  unfolding padded
   words-read {n} e =
-      let k = counted (length old / 2) file n (sym says ∙ e) in
+      let k = counted 512 file n (sym says ∙ e) in
       let ps = firstPairs file n in
       let l : length (flatten ps) ≡ 2 * n = length-flatten ps ∙ ap (λ (m : ℕ). 2 * m) (length-firstPairs file n) in
-      let w : new ≡ wordsAfter (pairs ps) old = rw (k .reads) at holds in
-      let t : take (2 * n) new ≡ flatten ps = rw (w, ← l) (take-at (flatten ps) _ (length (flatten ps)) refl) in
+      let w : parsed .words ≡ padded (flatten ps) = ap (λ (p : Parsed). p .words) (is ∙ ap parsedOf (k .reads)) in
+      let t : take (2 * n) (parsed .words) ≡ flatten ps = rw w (take-at (flatten ps) _ (2 * n) l) in
       record {
         few = k .most;
-        long = rw w (length-laidOver (flatten ps) old (omega (arith, k .most)) ∙ room);
-        read = rw (t, pairsOf-flatten ps, ← half) (k .reads);
+        long = rw (w, length-append, length-replicate) (omega (arith, l, k .most));
+        read = rw (t, pairsOf-flatten ps) (k .reads);
       }
 
-  pub words-refused : {n : ℕ} → answer ≡ Refused n → readCycle 512 file ≡ refused n
-  words-refused {n} e = rw half at (not-read (length old / 2) file n (sym says ∙ e))
+  pub words-refused : {n : ℕ} → parsed .judged ≡ Refused n → readCycle 512 file ≡ refused n
+  words-refused {n} e = not-read 512 file n (sym says ∙ e)
 
 -- The first number met is the specification's, the file's, or the check's.
 module _ (bytes file : List ℕ) {x : SpecRead} (is : x ≡ readSpec bytes) where

@@ -31,11 +31,12 @@ pub extern "C" fn maxeltu_verdict(spec_bytes: &[u8], cycle_bytes: &[u8]) -> u32
     let SpecRead::Accepted(s) = read else {
         return spec::read_number(read);
     };
-    let mut words = [0u16; 1024];
-    let judged = reading::read_flat(cycle_bytes, &mut words);
+    let parsed = reading::one_pass::parse(cycle_bytes);
+    let judged = parsed.judged;
     let Judged::Count(count) = judged else {
         return judged_number(judged);
     };
+    let words = parsed.words;
     let used = 2 * count;
     cycle::check(s, &words[..used])
 }

@@ -1,0 +1,43 @@
+-- What the functions of the module `one_pass` answer, by the definitions of `File`.
+use Prim.Native.Nat.{ℕ, _+_}
+use mathlib.Core.Bool.{Bool, cond, not, _&&_, _||_}
+use mathlib.Core.List.{List, []}
+use lib.Dec.{eqb, ltb}
+use lib.ListN.{length}
+use Rattle.pairs.specs.Pairs.{flatten, padded}
+use Rattle.cyclefile.specs.declared.PairRead.{PairRead}
+use Rattle.cyclefile.specs.declared.PairRead.the-variants.{Taken, Stopped}
+use Rattle.cyclefile.specs.declared.Judged.the-variants.{Count, Refused}
+use Rattle.cyclefile.specs.declared.reading.one_pass.Field.{Field}
+use Rattle.cyclefile.specs.declared.reading.one_pass.Step.{Step}
+use Rattle.cyclefile.specs.declared.reading.one_pass.Parsed.{Parsed}
+use Rattle.cyclefile.specs.File.{Before, none, after, CycleRead, pairs, refused, numberAt, hasGap, hasSize, fieldLength}
+
+-- the pair before the next one, told by its numbers
+abbrev pub beforeIs : Bool → ℕ → ℕ → Before
+beforeIs first g s = cond first none (after (record { gap = g; size = s }))
+
+-- `mapIsWrong`, where a flag tells the first pair
+abbrev pub wrongHere : Bool → ℕ → Bool
+wrongHere first m = ltb 3 m || (first && not (hasGap m && hasSize m))
+
+-- `standsInVain`, of one field
+abbrev pub inVain : Bool → Bool → ℕ → ℕ → Bool
+inVain first stands n before = stands && not (first || not (eqb n before))
+
+-- a field, and the place behind it
+abbrev pub fieldOf : List ℕ → Bool → ℕ → ℕ → Field
+fieldOf file stands i before = record { number = cond stands (numberAt file i) before; end = i + fieldLength stands }
+
+abbrev pub stoppedBy : ℕ → Step
+stoppedBy n = record { number = n; at = 0; gap = 0; size = 0 }
+
+-- a pair that was read from place i, or a refusal, as numbers
+abbrev pub stepOf : ℕ → PairRead → Step
+stepOf i (Taken p taken) = record { number = 0; at = i + taken; gap = p .gap; size = p .size }
+stepOf i (Stopped n) = stoppedBy n
+
+-- reading a file: the words of its pairs and zeros behind them, with the count; or zeros, with the refusal
+abbrev pub parsedOf : CycleRead → Parsed
+parsedOf (pairs ps) = record { words = padded (flatten ps); judged = Count (length ps) }
+parsedOf (refused n) = record { words = padded []; judged = Refused n }
