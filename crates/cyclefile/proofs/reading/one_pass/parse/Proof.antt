@@ -27,16 +27,19 @@ refused-requires-2 : tie.Need-refused-requires-2
 refused-requires-2 c κs = search needs
 
 returns-2 : tie.Need-returns-2
-returns-2 c = rw (bad-count 512 (now (c .before .before .before .before .before .before .args .file)) (c .before .before .before .before .if1 .left) (rw (← c .before .before .before .number-at .ensures, ← c .before .before .count-in .ensures) (not-true _ (c .before .if2 .taken)))) (c .refused2 .ensures)
+returns-2 c =
+    let counts = c .before .before in
+    rw (bad-count 512 (now (c .before .before .before .before .before .before .args .file)) (c .before .before .before .before .if1 .left) (rw (← counts .before .number-at .ensures, ← counts .count-in .ensures) (not-true _ (c .before .if2 .taken)))) (c .refused2 .ensures)
 
 parse-pairs-requires : tie.Need-parse-pairs-requires
 parse-pairs-requires c κs = (c .before .before .before .if1 .left, countIn-true _ (sym (c .before .count-in .ensures) ∙ not-false _ (c .if2 .left)) .1)
 
 returns-3 : tie.Need-returns-3
 returns-3 c =
-    let k = countIn-true _ (sym (c .before .before .count-in .ensures) ∙ not-false _ (c .before .if2 .left)) in
-    rw (pair-by-pair 512 (now (c .before .before .before .before .before .before .args .file)) (c .before .before .before .before .if1 .left) (rw (← c .before .before .before .number-at .ensures, ← c .before .before .count-in .ensures) (not-false _ (c .before .if2 .left))) (rw (← c .before .before .before .number-at .ensures) (k .1)))
-    (rw (c .before .before .before .number-at .ensures) at (c .parse-pairs .ensures))
+    let counts = c .before .before in
+    let counted = sym (counts .count-in .ensures) ∙ not-false _ (c .before .if2 .left) in
+    rw (pair-by-pair 512 (now (c .before .before .before .before .before .before .args .file)) (c .before .before .before .before .if1 .left) (rw (← counts .before .number-at .ensures) counted) (rw (← counts .before .number-at .ensures) (countIn-true _ counted .1)))
+    (rw (counts .before .number-at .ensures) at (c .parse-pairs .ensures))
 
 pub parse-spec : {M : Type 1} → statement M
 parse-spec =

@@ -31,8 +31,10 @@ refused-requires c κs = search needs
 
 returns : tie.Need-returns Inv-loop μ-loop
 returns c =
-    let e : c .before .before .before .before .before .before .before .args .count - c .before .before .before .before .before .loop .i ≡ suc (c .before .before .before .before .before .before .before .args .count - (c .before .before .before .before .before .loop .i + 1)) = omega arith in
-    c .refused .ensures ∙ sym (parsed-refused (now (c .before .before .before .before .before .before .before .args .file)) (c .before .before .before .before .before .loop .words) (c .before .before .before .before .before .loop .i) (c .before .before .before .before .before .loop .at) (c .before .before .before .before .before .loop .gap) (c .before .before .before .before .before .loop .size) (c .before .before .before .step-at .ensures) _ (c .before .if1 .taken)) ∙ rw e at (c .before .before .before .before .before .loop .inv .2)
+    let a = c .before .before .before .before .before .before .before .args in
+    let l = c .before .before .before .before .before .loop in
+    let e : a .count - l .i ≡ suc (a .count - (l .i + 1)) = omega arith in
+    c .refused .ensures ∙ sym (parsed-refused (now (a .file)) (l .words) (l .i) (l .at) (l .gap) (l .size) (c .before .before .before .step-at .ensures) _ (c .before .if1 .taken)) ∙ rw e at (l .inv .2)
 
 mul-words : tie.Need-mul-words Inv-loop μ-loop
 mul-words c = omega arith
@@ -63,10 +65,12 @@ loop-less c = omega arith
 
 loop-again : tie.Need-loop-again Inv-loop μ-loop
 loop-again c =
-    let e : c .before .before .before .before .before .before .args .count - c .before .before .before .before .loop .i ≡ suc (c .before .before .before .before .before .before .args .count - (c .before .before .before .before .loop .i + 1)) = omega arith in (
+    let a = c .before .before .before .before .before .before .args in
+    let l = c .before .before .before .before .loop in
+    let e : a .count - l .i ≡ suc (a .count - (l .i + 1)) = omega arith in (
       omega arith,
-      next-at (now (c .before .before .before .before .before .before .args .file)) (c .before .before .before .before .loop .words) (c .before .before .before .before .loop .i) (c .before .before .before .before .loop .at) (c .before .before .before .before .loop .gap) (c .before .before .before .before .loop .size) (c .before .before .step-at .ensures) (c .if1 .left) (c .before .before .before .before .loop .inv .1),
-      sym (parsed-next (now (c .before .before .before .before .before .before .args .file)) (c .before .before .before .before .loop .words) (c .before .before .before .before .loop .i) (c .before .before .before .before .loop .at) (c .before .before .before .before .loop .gap) (c .before .before .before .before .loop .size) (c .before .before .step-at .ensures) _ (c .if1 .left)) ∙ rw e at (c .before .before .before .before .loop .inv .2),
+      next-at (now (a .file)) (l .words) (l .i) (l .at) (l .gap) (l .size) (c .before .before .step-at .ensures) (c .if1 .left) (l .inv .1),
+      sym (parsed-next (now (a .file)) (l .words) (l .i) (l .at) (l .gap) (l .size) (c .before .before .step-at .ensures) _ (c .if1 .left)) ∙ rw e at (l .inv .2),
     )
 
 refused-requires-2 : tie.Need-refused-requires-2 Inv-loop μ-loop
@@ -74,14 +78,18 @@ refused-requires-2 c κs = search needs
 
 returns-2 : tie.Need-returns-2 Inv-loop μ-loop
 returns-2 c =
-    let e : c .before .before .before .before .before .args .count - c .before .before .before .loop .i ≡ 0 = omega arith in
-    c .refused2 .ensures ∙ sym (parsed-over _ _ _ _ (λ z. let l = rw length-drop at z in omega arith)) ∙ rw e at (c .before .before .before .loop .inv .2)
+    let a = c .before .before .before .before .before .args in
+    let l = c .before .before .before .loop in
+    let e : a .count - l .i ≡ 0 = omega arith in
+    c .refused2 .ensures ∙ sym (parsed-over _ _ _ _ (λ z. let n = rw length-drop at z in omega arith)) ∙ rw e at (l .inv .2)
 
 returns-3 : tie.Need-returns-3 Inv-loop μ-loop
 returns-3 c =
-    let e : c .before .before .before .before .args .count - c .before .before .loop .i ≡ 0 = omega arith in
-    let d : c .before .before .loop .i ≡ c .before .before .before .before .args .count = omega arith in
-    rw (← d) (sym (parsed-end _ _ _ _ (simp length-drop (omega arith)))) ∙ rw e at (c .before .before .loop .inv .2)
+    let a = c .before .before .before .before .args in
+    let l = c .before .before .loop in
+    let e : a .count - l .i ≡ 0 = omega arith in
+    let d : l .i ≡ a .count = omega arith in
+    rw (← d) (sym (parsed-end _ _ _ _ (simp length-drop (omega arith)))) ∙ rw e at (l .inv .2)
 
 pub parse-pairs-spec : {M : Type 1} → statement M
 parse-pairs-spec =

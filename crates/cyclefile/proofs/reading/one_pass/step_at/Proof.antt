@@ -14,7 +14,9 @@ stopped-requires : tie.Need-stopped-requires
 stopped-requires c κs = search needs
 
 returns : tie.Need-returns
-returns c = c .stopped .ensures ∙ step-none (now (c .before .before .before .args .file)) (c .before .before .before .args .at) (c .before .before .before .args .first) (c .before .before .before .args .gap) (c .before .before .before .args .size) (c .before .if1 .taken)
+returns c =
+    let a = c .before .before .before .args in
+    c .stopped .ensures ∙ step-none (now (a .file)) (a .at) (a .first) (a .gap) (a .size) (c .before .if1 .taken)
 
 shared-slice-read-map : tie.Need-shared-slice-read-map
 shared-slice-read-map c = search needs
@@ -26,7 +28,9 @@ stopped-requires-2 : tie.Need-stopped-requires-2
 stopped-requires-2 c κs = search needs
 
 returns-2 : tie.Need-returns-2
-returns-2 c = c .stopped2 .ensures ∙ step-wrong (now (c .before .before .before .before .before .before .args .file)) (c .before .before .before .before .before .before .args .at) (c .before .before .before .before .before .before .args .first) (c .before .before .before .before .before .before .args .gap) (c .before .before .before .before .before .before .args .size) (c .before .before .before .before .if1 .left) (sym (c .before .before .map-is-wrong .ensures) ∙ c .before .if2 .taken)
+returns-2 c =
+    let a = c .before .before .before .before .before .before .args in
+    c .stopped2 .ensures ∙ step-wrong (now (a .file)) (a .at) (a .first) (a .gap) (a .size) (c .before .before .before .before .if1 .left) (sym (c .before .before .map-is-wrong .ensures) ∙ c .before .if2 .taken)
 
 bytes-taken-requires : tie.Need-bytes-taken-requires
 bytes-taken-requires c κs = search needs
@@ -35,7 +39,10 @@ stopped-requires-3 : tie.Need-stopped-requires-3
 stopped-requires-3 c κs = search needs
 
 returns-3 : tie.Need-returns-3
-returns-3 c = c .stopped3 .ensures ∙ step-cut (now (c .before .before .before .before .before .before .before .before .args .file)) (c .before .before .before .before .before .before .before .before .args .at) (c .before .before .before .before .before .before .before .before .args .first) (c .before .before .before .before .before .before .before .before .args .gap) (c .before .before .before .before .before .before .before .before .args .size) (c .before .before .before .before .before .before .if1 .left) (sym (c .before .before .before .before .map-is-wrong .ensures) ∙ c .before .before .before .if2 .left) (rw (← c .before .before .bytes-taken .ensures) (c .before .if3 .taken))
+returns-3 c =
+    let a = c .before .before .before .before .before .before .before .before .args in
+    c .stopped3 .ensures
+    ∙ step-cut (now (a .file)) (a .at) (a .first) (a .gap) (a .size) (c .before .before .before .before .before .before .if1 .left) (sym (c .before .before .before .before .map-is-wrong .ensures) ∙ c .before .before .before .if2 .left) (rw (← c .before .before .bytes-taken .ensures) (c .before .if3 .taken))
 
 has-gap-requires : tie.Need-has-gap-requires
 has-gap-requires c κs = search needs
@@ -62,10 +69,23 @@ stopped-requires-4 : tie.Need-stopped-requires-4
 stopped-requires-4 c κs = search needs
 
 returns-4 : tie.Need-returns-4
-returns-4 c = c .stopped4 .ensures ∙ step-vain (now (c .before .before .before .before .before .before .before .before .before .before .before .before .before .before .before .args .file)) (c .before .before .before .before .before .before .before .before .before .before .before .before .before .before .before .args .at) (c .before .before .before .before .before .before .before .before .before .before .before .before .before .before .before .args .first) (c .before .before .before .before .before .before .before .before .before .before .before .before .before .before .before .args .gap) (c .before .before .before .before .before .before .before .before .before .before .before .before .before .before .before .args .size) (c .before .before .before .before .before .before .before .before .before .before .before .before .before .if1 .left) (sym (c .before .before .before .before .before .before .before .before .before .before .before .map-is-wrong .ensures) ∙ c .before .before .before .before .before .before .before .before .before .before .if2 .left) (rw (← c .before .before .before .before .before .before .before .before .before .bytes-taken .ensures) (c .before .before .before .before .before .before .before .before .if3 .left)) (c .before .before .before .before .before .before .before .has-gap .ensures) (c .before .before .before .before .before .before .has-size .ensures) (c .before .before .before .before .before .take-field .ensures) (c .before .before .before .before .take-field2 .ensures) (c .before .before .before .in-vain .ensures) (c .before .before .in-vain2 .ensures) (c .before .if4 .taken)
+returns-4 c =
+    let a = c .before .before .before .before .before .before .before .before .before .before .before .before .before .before .before .args in
+    let tests = c .before .before .before .before .before .before .before in
+    let fields = c .before .before in
+    c .stopped4 .ensures
+    ∙ step-vain (now (a .file)) (a .at) (a .first) (a .gap) (a .size)
+    (tests .before .before .before .before .before .before .if1 .left) (sym (tests .before .before .before .before .map-is-wrong .ensures) ∙ tests .before .before .before .if2 .left) (rw (← tests .before .before .bytes-taken .ensures) (tests .before .if3 .left))
+    (tests .has-gap .ensures) (fields .before .before .before .before .has-size .ensures) (fields .before .before .before .take-field .ensures) (fields .before .before .take-field2 .ensures) (fields .before .in-vain .ensures) (fields .in-vain2 .ensures) (c .before .if4 .taken)
 
 returns-5 : tie.Need-returns-5
-returns-5 c = step-taken (now (c .before .before .before .before .before .before .before .before .before .before .before .before .before .before .args .file)) (c .before .before .before .before .before .before .before .before .before .before .before .before .before .before .args .at) (c .before .before .before .before .before .before .before .before .before .before .before .before .before .before .args .first) (c .before .before .before .before .before .before .before .before .before .before .before .before .before .before .args .gap) (c .before .before .before .before .before .before .before .before .before .before .before .before .before .before .args .size) (c .before .before .before .before .before .before .before .before .before .before .before .before .if1 .left) (sym (c .before .before .before .before .before .before .before .before .before .before .map-is-wrong .ensures) ∙ c .before .before .before .before .before .before .before .before .before .if2 .left) (rw (← c .before .before .before .before .before .before .before .before .bytes-taken .ensures) (c .before .before .before .before .before .before .before .if3 .left)) (c .before .before .before .before .before .before .has-gap .ensures) (c .before .before .before .before .before .has-size .ensures) (c .before .before .before .before .take-field .ensures) (c .before .before .before .take-field2 .ensures) (c .before .before .in-vain .ensures) (c .before .in-vain2 .ensures) (c .if4 .left)
+returns-5 c =
+    let a = c .before .before .before .before .before .before .before .before .before .before .before .before .before .before .args in
+    let tests = c .before .before .before .before .before .before in
+    let fields = c .before in
+    step-taken (now (a .file)) (a .at) (a .first) (a .gap) (a .size)
+    (tests .before .before .before .before .before .before .if1 .left) (sym (tests .before .before .before .before .map-is-wrong .ensures) ∙ tests .before .before .before .if2 .left) (rw (← tests .before .before .bytes-taken .ensures) (tests .before .if3 .left))
+    (tests .has-gap .ensures) (fields .before .before .before .before .has-size .ensures) (fields .before .before .before .take-field .ensures) (fields .before .before .take-field2 .ensures) (fields .before .in-vain .ensures) (fields .in-vain2 .ensures) (c .if4 .left)
 
 pub step-at-spec : {M : Type 1} → statement M
 step-at-spec =
