@@ -4,6 +4,7 @@ pub mod OnePair
 pub mod PairByPair
 pub mod WholeFile
 pub mod PlainSteps
+pub mod Judging
 pub mod Parsing
 pub mod StoredBytes
 pub mod FlatForms

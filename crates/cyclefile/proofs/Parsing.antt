@@ -14,7 +14,7 @@ use Rattle.pairs.proofs.FlatLists.{length-flatten}
 use Rattle.pairs.proofs.Unpacked.{zeros, zeros-is, length-zeros, held-all, laid-all}
 use Rattle.cyclefile.specs.declared.PairRead.the-variants.{Taken, Stopped}
 use Rattle.cyclefile.specs.declared.Judged.the-variants.{Count}
-use Rattle.cyclefile.specs.declared.reading.one_pass.Step.{Step}
+use Rattle.cyclefile.specs.declared.reading.steps.Step.{Step}
 use Rattle.cyclefile.specs.declared.reading.one_pass.Parsed.{Parsed}
 use Rattle.cyclefile.specs.Refusals.{bytesOver}
 use Rattle.cyclefile.specs.File.{Before, after, CycleRead, pairs, refused, withFirst, readPair, readPairs, laidOver}
@@ -92,12 +92,6 @@ next-by file words i at g s k p n at′ g′ s′ e at-is gap-is size-is =
 
 -- a step from pair i on, and what it leaves
 module _ (file words : List ℕ) (i at g s : ℕ) {r : Step} (is : r ≡ stepOf at (readPair (beforeIs (eqb i 0) g s) (drop at file))) where
-  pub next-at : r .number ≡ 0 → at ≤ length file → r .at ≤ length file
-  next-at z h =
-      let t = stepped (beforeIs (eqb i 0) g s) (drop at file) at r is z in
-      let w = rw length-drop at (taken-within (beforeIs (eqb i 0) g s) (drop at file) (t .pair) (t .taken) (t .read)) in
-      omega (arith, t .at-is)
-
   pub parsed-next : (k : ℕ) → r .number ≡ 0
       → parsedAfter words i (readPairs (suc k) (beforeIs (eqb i 0) g s) (drop at file)) ≡ parsedAfter (set (set words (2 * i) (r .gap)) (2 * i + 1) (r .size)) (i + 1) (readPairs k (beforeIs (eqb (i + 1) 0) (r .gap) (r .size)) (drop (r .at) file))
   parsed-next k z =

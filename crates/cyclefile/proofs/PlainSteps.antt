@@ -13,8 +13,8 @@ use Rattle.pairs.specs.declared.Pair.{Pair}
 use Rattle.cyclefile.specs.declared.Cursor.{Cursor}
 use Rattle.cyclefile.specs.declared.PairRead.{PairRead}
 use Rattle.cyclefile.specs.declared.PairRead.the-variants.{Taken, Stopped}
-use Rattle.cyclefile.specs.declared.reading.one_pass.Field.{Field}
-use Rattle.cyclefile.specs.declared.reading.one_pass.Step.{Step}
+use Rattle.cyclefile.specs.declared.reading.steps.Field.{Field}
+use Rattle.cyclefile.specs.declared.reading.steps.Step.{Step}
 use Rattle.cyclefile.specs.Refusals.{wrongMap, cut, notLeftOut}
 use Rattle.cyclefile.specs.File.{Before, none, after, numberAt, hasGap, hasSize, fieldLength, bytesTaken, lastPair, pairAt, mapIsWrong, standsInVain, readPair}
 use Rattle.cyclefile.specs.OnePass.{beforeIs, wrongHere, fieldOf, inVain, stoppedBy, stepOf}

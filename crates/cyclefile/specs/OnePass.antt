@@ -8,8 +8,8 @@ use Rattle.pairs.specs.Pairs.{flatten, padded}
 use Rattle.cyclefile.specs.declared.PairRead.{PairRead}
 use Rattle.cyclefile.specs.declared.PairRead.the-variants.{Taken, Stopped}
 use Rattle.cyclefile.specs.declared.Judged.the-variants.{Count, Refused}
-use Rattle.cyclefile.specs.declared.reading.one_pass.Field.{Field}
-use Rattle.cyclefile.specs.declared.reading.one_pass.Step.{Step}
+use Rattle.cyclefile.specs.declared.reading.steps.Field.{Field}
+use Rattle.cyclefile.specs.declared.reading.steps.Step.{Step}
 use Rattle.cyclefile.specs.declared.reading.one_pass.Parsed.{Parsed}
 use Rattle.cyclefile.specs.File.{Before, none, after, CycleRead, pairs, refused, numberAt, hasGap, hasSize, fieldLength}
 

@@ -5,7 +5,6 @@ use pairs::MOST_PAIRS;
 use pairs::Pair;
 
 pub mod reading;
-mod refusal;
 pub mod writing;
 
 ghost use mathlib.Core.Path.{_≡_};

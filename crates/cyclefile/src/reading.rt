@@ -3,23 +3,22 @@
 use crate::Begun;
 use crate::Cursor;
 use crate::Judged;
-use crate::PairRead;
 use crate::begin;
 use crate::count_in;
 use crate::field_length;
-use crate::gap_stands;
-use crate::refusal;
-use crate::size_stands;
 use pairs::Pair;
+use spec::refusal;
+use steps::step_at;
 
 pub mod one_pass;
+mod steps;
 
 ghost use mathlib.Core.Path.{_≡_};
 ghost use Prim.Native.Nat.{_+_, _*_, _/_, _≤_, _<_};
 ghost use mathlib.Core.Bool.{cond};
 ghost use lib.ListN.{length, getD, drop};
-ghost use Rattle.cyclefile.specs.File.{none, readCycle, readPairs, laidOver, mapIsWrong, hasGap, hasSize, bytesTaken, fieldLength, numberAt, lastPair, readPair, pairAt, standsInVain, countAfter};
-ghost use Rattle.cyclefile.specs.Steps.{beforeOf, readAt, nextOf, firstPairs, judged, wordsAfter, begun};
+ghost use Rattle.cyclefile.specs.File.{none, readCycle, readPairs, laidOver, hasGap, hasSize, bytesTaken, numberAt, countAfter};
+ghost use Rattle.cyclefile.specs.Steps.{nextOf, firstPairs, judged, wordsAfter, begun};
 ghost use Rattle.pairs.specs.Pairs.{flatten};
 
 fn has_gap(map: u8) -> bool
@@ -32,23 +31,6 @@ fn has_size(map: u8) -> bool
     ensures { λ r. ⌜ r ≡ hasSize map ⌝ }
 {
     map / 2 % 2 == 1
-}
-
-fn map_is_wrong(c: Cursor, map: u8) -> bool
-    ensures { λ r. ⌜ r ≡ mapIsWrong (beforeOf c) map ⌝ }
-{
-    let both = (map % 2 == 1) & (map / 2 % 2 == 1);
-    (3 < map) | (c.first & !both)
-}
-
-// What a field left out equals.
-fn last_pair(c: Cursor) -> Pair
-    ensures { λ r. ⌜ r ≡ lastPair (beforeOf c) ⌝ }
-{
-    if c.first {
-        return Pair { gap: 0, size: 0 };
-    }
-    c.last
 }
 
 // How many bytes a pair with this map takes: 1, 3 or 5.
@@ -65,109 +47,48 @@ fn number_at(bytes: &[u8], at: usize) -> u16
     (bytes[at] as u16) * 256 + (bytes[at + 1] as u16)
 }
 
-// A field that stands at `at`, or the one before.
-fn field_at(bytes: &[u8], stands: bool, at: usize, before: u16) -> u16
-    requires { ⌜ at + fieldLength stands ≤ length (now bytes) ⌝ }
-    ensures { λ r. ⌜ r ≡ cond stands (numberAt (now (bytes .entry)) at) before ⌝ }
-{
-    if stands { number_at(bytes, at) } else { before }
-}
-
-// The pair that the bytes start with, after the pair `last`.
-fn pair_at(bytes: &[u8], last: Pair) -> Pair
-    requires { ⌜ bytesTaken (getD (now bytes) 0 0) ≤ length (now bytes) ⌝ }
-    ensures { λ r. ⌜ r ≡ pairAt last (now (bytes .entry)) ⌝ }
-{
-    let map = bytes[0];
-    let gap = has_gap(map);
-    let size = has_size(map);
-    let at = 1 + field_length(gap);
-    Pair {
-        gap: field_at(bytes, gap, 1, last.gap),
-        size: field_at(bytes, size, at, last.size),
-    }
-}
-
-// Whether a field stands that should be left out.
-fn stands_in_vain(c: Cursor, map: u8, pair: Pair) -> bool
-    ensures { λ r. ⌜ r ≡ standsInVain (beforeOf c) map pair ⌝ }
-{
-    let gap = (map % 2 == 1) & !gap_stands(c, pair);
-    let size = (map / 2 % 2 == 1) & !size_stands(c, pair);
-    gap | size
-}
-
-// The pair that the bytes start with. Both fields are tested for being cut
-// before either is compared with the one before.
-fn read_pair(bytes: &[u8], c: Cursor) -> PairRead
-    ensures { λ r. ⌜ r ≡ readPair (beforeOf c) (now (bytes .entry)) ⌝ }
-{
-    if bytes.len() == 0 {
-        return PairRead::Stopped(refusal::CUT);
-    }
-    let map = bytes[0];
-    if map_is_wrong(c, map) {
-        return PairRead::Stopped(refusal::MAP);
-    }
-    let taken = bytes_taken(map);
-    if bytes.len() < taken {
-        return PairRead::Stopped(refusal::CUT);
-    }
-    let last = last_pair(c);
-    let pair = pair_at(bytes, last);
-    if stands_in_vain(c, map, pair) {
-        return PairRead::Stopped(refusal::NOT_LEFT_OUT);
-    }
-    PairRead::Taken(pair, taken)
-}
-
-// The pair at a cursor.
-fn read_at(file: &[u8], c: Cursor) -> PairRead
-    ensures { λ r. ⌜ r ≡ readAt (now (file .entry)) c ⌝ }
-{
-    let at = c.at;
-    if file.len() < at {
-        return PairRead::Stopped(refusal::CUT);
-    }
-    read_pair(&file[at..], c)
-}
-
 // The cursor past the pair at `c`. Where no pair can be read there, `c` itself.
 pub fn next(file: &[u8], c: Cursor) -> Cursor
     ensures { λ r. ⌜ r ≡ nextOf (now (file .entry)) c ⌝ }
 {
-    match read_at(file, c) {
-        PairRead::Taken(pair, taken) => Cursor {
-            at: c.at + taken,
-            first: false,
-            last: pair,
+    let at = c.at;
+    if file.len() < at {
+        return c;
+    }
+    let pair = step_at(file, at, c.first, c.last.gap, c.last.size);
+    if pair.number != 0 {
+        return c;
+    }
+    Cursor {
+        at: pair.at,
+        first: false,
+        last: Pair {
+            gap: pair.gap,
+            size: pair.size,
         },
-        PairRead::Stopped(_) => c,
     }
 }
 
 // Judges the pairs of a file, of which the count says how many there are.
 fn judge_pairs(file: &[u8], count: usize) -> Judged
+    requires { ⌜ 2 ≤ length (now file) ⌝ }
     ensures { λ r. ⌜ r ≡ judged (readPairs count none (drop 2 (now (file .entry)))) ⌝ }
 {
-    let mut c = begin();
+    let mut at: usize = 2;
+    let mut gap: u16 = 0;
+    let mut size: u16 = 0;
     let mut i: usize = 0;
     while i < count {
-        match read_at(file, c) {
-            PairRead::Taken(pair, taken) => {
-                c = Cursor {
-                    at: c.at + taken,
-                    first: false,
-                    last: pair,
-                };
-            }
-            PairRead::Stopped(number) => {
-                return Judged::Refused(number);
-            }
+        let pair = step_at(file, at, i == 0, gap, size);
+        if pair.number != 0 {
+            return Judged::Refused(pair.number);
         }
+        at = pair.at;
+        gap = pair.gap;
+        size = pair.size;
         i += 1;
     }
-    if c.at < file.len() {
+    if at < file.len() {
         return Judged::Refused(refusal::BYTES_OVER);
     }
     Judged::Count(count)

@@ -41,6 +41,8 @@ pub const PAIR_MAP: u32 = 17;
 
 pub const CUT: u32 = 18;
 
-pub const REPEATED: u32 = 19;
+pub const BYTES_OVER: u32 = 18;
 
-pub const PLACES: u32 = 20;
+pub const NOT_LEFT_OUT: u32 = 19;
+
+pub const NO_ROOM: u32 = 20;

@@ -1,70 +1,72 @@
 -- `cyclefile::reading::judge_pairs` meets its contract. The loop's invariant: with i pairs passed, what is left of the file decides the answer for
--- the whole (`judgedAfter`). A sum does not wrap, since a pair that is taken lies within the file. Assumes nothing.
+-- the whole (`judgedAfter`). Assumes nothing.
 use denote.Ref.{now}
 use mathlib.Core.Path.{_≡_, sym, _∙_}
 use Prim.Native.Nat.{suc, _+_, _-_, _≤_, zero-le}
 use native.Mathlib.Omega.{arith}
-use lib.ListN.{drop, length-drop}
-use lib.Seq.{drop-drop}
+use lib.Dec.{eqb}
+use lib.ListN.{length, drop, length-drop}
 use borrow.Author.Needs.{needs}
 use Rattle.cyclefile.specs.File.{none, readPairs}
-use Rattle.cyclefile.specs.Steps.{beforeOf, judged}
-use Rattle.cyclefile.proofs.PairByPair.{taken-in-file, judgedAfter, judgedAfter-none, judged-pair, judged-stop, judged-end, judged-over}
+use Rattle.cyclefile.specs.OnePass.{beforeIs}
+use Rattle.cyclefile.specs.Steps.{judged}
+use Rattle.cyclefile.proofs.PairByPair.{judgedAfter, judgedAfter-none, judged-end, judged-over}
+use Rattle.cyclefile.proofs.Judging.{step-within, judged-next, judged-refused}
 use Rattle.cyclefile.proofs.reading.judge_pairs.Statement.{statement}
 use Rattle.cyclefile.proofs.reading.judge_pairs.Tie as tie
 
 abbrev Inv-loop : tie.InvT-loop
-Inv-loop file count c₀ i₀ c i = (i ≤ count) × (judgedAfter i (readPairs (count - i) (beforeOf c) (drop (c .at) file)) ≡ judged (readPairs count none (drop 2 file)))
+Inv-loop file count at₀ gap₀ size₀ i₀ at gap size i =
+    (i ≤ count) × (at ≤ length file) × (judgedAfter i (readPairs (count - i) (beforeIs (eqb i 0) gap size) (drop at file)) ≡ judged (readPairs count none (drop 2 file)))
 
 abbrev μ-loop : tie.MeasureT-loop
-μ-loop file count c₀ i₀ c i = count - i
-
-begin-requires : tie.Need-begin-requires Inv-loop μ-loop
-begin-requires c κs = search needs
+μ-loop file count at₀ gap₀ size₀ i₀ at gap size i = count - i
 
 loop-holds : tie.Need-loop-holds Inv-loop μ-loop
-loop-holds c = (zero-le, (let e : c .before .before .args .count - 0 ≡ c .before .before .args .count = omega arith in rw (c .begin .ensures, e) (judgedAfter-none (readPairs (c .before .before .args .count) none (drop 2 (now (c .before .before .args .file)))))))
+loop-holds c =
+    let e : c .before .args .count - 0 ≡ c .before .args .count = omega arith in
+    (zero-le, c .before .pre, rw e (judgedAfter-none (readPairs (c .before .args .count) none (drop 2 (now (c .before .args .file))))))
 
-read-at-requires : tie.Need-read-at-requires Inv-loop μ-loop
-read-at-requires c κs = search needs
-
-enum-known-pair : tie.Need-enum-known-pair Inv-loop μ-loop
-enum-known-pair c = search needs
-
-add-t10 : tie.Need-add-t10 Inv-loop μ-loop
-add-t10 c = let h = taken-in-file (now (c .before .before .before .before .before .before .before .before .before .args .file)) (c .before .before .before .before .before .before .loop .c) (c .before .before .before .before .read-at .result) (c .before .before .pair .given .0 .0) (c .before .before .pair .given .0 .1 .0) (c .before .before .before .before .read-at .ensures) (c .before .before .pair .given .1) in omega arith
-
-enum-known-number : tie.Need-enum-known-number Inv-loop μ-loop
-enum-known-number c = search needs
+step-at-requires : tie.Need-step-at-requires Inv-loop μ-loop
+step-at-requires c κs = search needs
 
 returns : tie.Need-returns Inv-loop μ-loop
 returns c =
-    let e : c .before .before .before .before .before .before .before .before .args .count - c .before .before .before .before .before .loop .i ≡ suc (c .before .before .before .before .before .before .before .before .args .count - (c .before .before .before .before .before .loop .i + 1)) = omega arith in
-    sym (judged-stop _ _ _ _ _ (sym (c .before .before .before .read-at .ensures) ∙ c .before .number .given .1)) ∙ rw e at (c .before .before .before .before .before .loop .inv .1)
+    let a = c .before .before .before .before .before .before .args in
+    let l = c .before .before .before .before .loop in
+    let e : a .count - l .i ≡ suc (a .count - (l .i + 1)) = omega arith in
+    sym (judged-refused (now (a .file)) (l .i) (l .at) (l .gap) (l .size) (c .before .before .step-at .ensures) _ (c .if1 .taken)) ∙ rw e at (l .inv .2)
 
 add-i : tie.Need-add-i Inv-loop μ-loop
-add-i c = search needs
+add-i c = omega arith
 
 loop-less : tie.Need-loop-less Inv-loop μ-loop
-loop-less c = search needs
+loop-less c = omega arith
 
 loop-again : tie.Need-loop-again Inv-loop μ-loop
-loop-again c = (
-  omega arith,
-  let e : c .before .before .before .before .before .before .before .before .before .args .count - c .before .before .before .before .before .before .loop .i ≡ suc (c .before .before .before .before .before .before .before .before .before .args .count - (c .before .before .before .before .before .before .loop .i + 1)) = omega arith in
-      rw (← drop-drop) (sym (judged-pair _ _ _ _ _ _ (sym (c .before .before .before .before .read-at .ensures) ∙ c .before .before .pair .given .1)) ∙ rw e at (c .before .before .before .before .before .before .loop .inv .1)),
-)
+loop-again c =
+    let a = c .before .before .before .before .before .before .args in
+    let l = c .before .before .before .before .loop in
+    let e : a .count - l .i ≡ suc (a .count - (l .i + 1)) = omega arith in (
+      omega arith,
+      step-within (now (a .file)) (l .i) (l .at) (l .gap) (l .size) (c .before .before .step-at .ensures) (c .if1 .left) (l .inv .1),
+      sym (judged-next (now (a .file)) (l .i) (l .at) (l .gap) (l .size) (c .before .before .step-at .ensures) _ (c .if1 .left)) ∙ rw e at (l .inv .2),
+    )
 
 returns-2 : tie.Need-returns-2 Inv-loop μ-loop
 returns-2 c =
-    let e : c .before .before .before .before .before .before .args .count - c .before .before .before .loop .i ≡ 0 = omega arith in
-    sym (judged-over _ _ _ 0 (λ z. let l = rw length-drop at z in omega arith)) ∙ rw e at (c .before .before .before .loop .inv .1)
+    let a = c .before .before .before .before .args in
+    let l = c .before .before .loop in
+    let e : a .count - l .i ≡ 0 = omega arith in
+    sym (judged-over _ _ _ 0 (λ z. let n = rw length-drop at z in omega arith)) ∙ rw e at (l .inv .2)
 
 returns-3 : tie.Need-returns-3 Inv-loop μ-loop
 returns-3 c =
-    let e : c .before .before .before .before .before .before .args .count - c .before .before .before .loop .i ≡ 0 = omega arith in
-    let d : c .before .before .before .loop .i ≡ c .before .before .before .before .before .before .args .count = omega arith in
-    rw (← d) (sym (judged-end _ _ _ 0 (simp length-drop (omega arith)))) ∙ rw e at (c .before .before .before .loop .inv .1)
+    let a = c .before .before .before .before .args in
+    let l = c .before .before .loop in
+    let e : a .count - l .i ≡ 0 = omega arith in
+    let d : l .i ≡ a .count = omega arith in
+    rw (← d) (sym (judged-end _ _ _ 0 (simp length-drop (omega arith)))) ∙ rw e at (l .inv .2)
 
 pub judge-pairs-spec : {M : Type 1} → statement M
 judge-pairs-spec =
@@ -72,12 +74,8 @@ judge-pairs-spec =
     (tie.spec
     Inv-loop
     μ-loop
-    begin-requires
     loop-holds
-    read-at-requires
-    enum-known-pair
-    add-t10
-    enum-known-number
+    step-at-requires
     returns
     add-i
     loop-less

@@ -9,7 +9,8 @@ use lib.ListN.{length, drop, length-drop}
 use borrow.Author.Needs.{needs}
 use Rattle.cyclefile.specs.File.{none, readPairs}
 use Rattle.cyclefile.specs.OnePass.{beforeIs, parsedOf}
-use Rattle.cyclefile.proofs.Parsing.{parsedAfter, parsed-start, next-at, parsed-next, parsed-refused, parsed-end, parsed-over}
+use Rattle.cyclefile.proofs.Judging.{step-within}
+use Rattle.cyclefile.proofs.Parsing.{parsedAfter, parsed-start, parsed-next, parsed-refused, parsed-end, parsed-over}
 use Rattle.cyclefile.proofs.reading.one_pass.parse_pairs.Statement.{statement}
 use Rattle.cyclefile.proofs.reading.one_pass.parse_pairs.Tie as tie
 
@@ -69,7 +70,7 @@ loop-again c =
     let l = c .before .before .before .before .loop in
     let e : a .count - l .i ≡ suc (a .count - (l .i + 1)) = omega arith in (
       omega arith,
-      next-at (now (a .file)) (l .words) (l .i) (l .at) (l .gap) (l .size) (c .before .before .step-at .ensures) (c .if1 .left) (l .inv .1),
+      step-within (now (a .file)) (l .i) (l .at) (l .gap) (l .size) (c .before .before .step-at .ensures) (c .if1 .left) (l .inv .1),
       sym (parsed-next (now (a .file)) (l .words) (l .i) (l .at) (l .gap) (l .size) (c .before .before .step-at .ensures) _ (c .if1 .left)) ∙ rw e at (l .inv .2),
     )
 

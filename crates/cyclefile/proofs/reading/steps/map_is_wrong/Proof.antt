@@ -1,7 +1,7 @@
--- `cyclefile::reading::one_pass::map_is_wrong` meets its contract: by what its callees ensure. Assumes nothing.
+-- `cyclefile::reading::steps::map_is_wrong` meets its contract: by what its callees ensure. Assumes nothing.
 use borrow.Author.Needs.{needs}
-use Rattle.cyclefile.proofs.reading.one_pass.map_is_wrong.Statement.{statement}
-use Rattle.cyclefile.proofs.reading.one_pass.map_is_wrong.Tie as tie
+use Rattle.cyclefile.proofs.reading.steps.map_is_wrong.Statement.{statement}
+use Rattle.cyclefile.proofs.reading.steps.map_is_wrong.Tie as tie
 
 has-gap-requires : tie.Need-has-gap-requires
 has-gap-requires c κs = search needs

@@ -1,9 +1,9 @@
--- `cyclefile::reading::one_pass::take_field` meets its contract: a field that stands has its 2 bytes. Assumes nothing.
+-- `cyclefile::reading::steps::take_field` meets its contract: a field that stands has its 2 bytes. Assumes nothing.
 use native.Mathlib.Nat.{add-zero}
 use native.Mathlib.Omega.{arith}
 use borrow.Author.Needs.{needs}
-use Rattle.cyclefile.proofs.reading.one_pass.take_field.Statement.{statement}
-use Rattle.cyclefile.proofs.reading.one_pass.take_field.Tie as tie
+use Rattle.cyclefile.proofs.reading.steps.take_field.Statement.{statement}
+use Rattle.cyclefile.proofs.reading.steps.take_field.Tie as tie
 
 number-at-requires : tie.Need-number-at-requires
 number-at-requires c κs = let h = simp (c .if1 .taken) at (c .before .before .pre) in omega arith

@@ -1,11 +1,11 @@
--- `cyclefile::reading::one_pass::step_at` meets its contract: each `return` is a case of `PlainSteps`. Assumes nothing.
+-- `cyclefile::reading::steps::step_at` meets its contract: each `return` is a case of `PlainSteps`. Assumes nothing.
 use denote.Ref.{now}
 use mathlib.Core.Path.{sym, _∙_}
 use native.Mathlib.Omega.{arith}
 use Rattle.cyclefile.proofs.PlainSteps.{step-none, step-wrong, step-cut, step-vain, step-taken}
 use borrow.Author.Needs.{needs}
-use Rattle.cyclefile.proofs.reading.one_pass.step_at.Statement.{statement}
-use Rattle.cyclefile.proofs.reading.one_pass.step_at.Tie as tie
+use Rattle.cyclefile.proofs.reading.steps.step_at.Statement.{statement}
+use Rattle.cyclefile.proofs.reading.steps.step_at.Tie as tie
 
 sub-left : tie.Need-sub-left
 sub-left c = search needs
