@@ -1,14 +1,14 @@
 -- Laws of reading pair by pair. Judging: while i pairs are passed, what is left decides the answer (`judgedAfter`). Filling: the pairs that the
 -- cursors pass are those that `readPairs` gives. Assumes nothing.
 use mathlib.Core.Path.{_≡_, refl, sym, ap, _∙_}
-use Prim.Native.Nat.{ℕ, zero, suc, _+_, _-_, _≤_}
+use Prim.Native.Nat.{ℕ, zero, suc, _+_}
 use native.Mathlib.Nat.{zero-add, add-zero}
 use native.Mathlib.Numerals.{add-one}
 use native.Mathlib.Omega.{arith}
 use mathlib.Core.Bool.{Bool, true, false, cond}
 use mathlib.Core.List.{List, [], _∷_, _++_, append-nil, append-assoc}
 use lib.Dec.{eqb}
-use lib.ListN.{length, drop, length-drop, length-append}
+use lib.ListN.{length, drop, length-append}
 use lib.Seq.{drop-drop}
 use borrow.Author.Tests.{eqb-true, eq-eqb, ne-eqb}
 use Rattle.pairs.specs.declared.Pair.{Pair}
@@ -19,12 +19,7 @@ use Rattle.cyclefile.specs.declared.Judged.{Judged}
 use Rattle.cyclefile.specs.declared.Judged.the-variants.{Count, Refused}
 use Rattle.cyclefile.specs.Refusals.{bytesOver}
 use Rattle.cyclefile.specs.File.{Before, after, CycleRead, pairs, refused, readPair, andThen, withFirst, readPairs}
-use Rattle.cyclefile.proofs.OnePair.{taken-within}
 use Rattle.cyclefile.specs.Steps.{beforeOf, past, readAt, nextOf, cursorAt, firstPairs, judged}
-
--- a pair that is taken lies within the file
-pub taken-in-file : (file : List ℕ) (c : Cursor) (r : PairRead) (p : Pair) (n : ℕ) → r ≡ readAt file c → r ≡ Taken p n → n ≤ length file - c .at
-taken-in-file file c r p n e h = rw length-drop at (taken-within (beforeOf c) (drop (c .at) file) p n (sym e ∙ h))
 
 -- ---- judging
 

@@ -1,17 +1,16 @@
 -- Laws of reading in one pass: while i pairs are stored, what is left decides the answer (`parsedAfter`). Assumes nothing.
-use mathlib.Core.Path.{_≡_, refl, ap, _∙_}
+use mathlib.Core.Path.{_≡_, refl, sym, ap, _∙_}
 use Prim.Native.Nat.{ℕ, suc, _+_, _*_, _-_, _≤_}
 use native.Mathlib.Nat.{zero-add, add-zero}
 use native.Mathlib.Omega.{arith}
 use mathlib.Core.List.{List, [], _∷_, _++_, append-nil, append-assoc}
 use lib.Dec.{eqb}
-use lib.ListN.{length, set, drop, replicate, length-append, length-drop}
-use lib.Seq.{take-length, drop-drop}
+use lib.ListN.{length, set, drop, replicate, length-append}
+use lib.Seq.{drop-drop}
 use borrow.Author.Tests.{eq-eqb, ne-eqb}
 use Rattle.pairs.specs.declared.Pair.{Pair}
-use Rattle.pairs.specs.Pairs.{flatten, padded, unpacked}
-use Rattle.pairs.proofs.FlatLists.{length-flatten}
-use Rattle.pairs.proofs.Unpacked.{zeros, zeros-is, length-zeros, held-all, laid-all}
+use Rattle.pairs.specs.Pairs.{flatten, padded}
+use Rattle.pairs.proofs.Unpacked.{zeros, zeros-is, length-zeros, padded-is}
 use Rattle.cyclefile.specs.declared.PairRead.the-variants.{Taken, Stopped}
 use Rattle.cyclefile.specs.declared.Judged.the-variants.{Count}
 use Rattle.cyclefile.specs.declared.reading.steps.Step.{Step}
@@ -20,7 +19,6 @@ use Rattle.cyclefile.specs.Refusals.{bytesOver}
 use Rattle.cyclefile.specs.File.{Before, after, CycleRead, pairs, refused, withFirst, readPair, readPairs, laidOver}
 use Rattle.cyclefile.specs.OnePass.{beforeIs, stepOf, parsedOf}
 use Rattle.cyclefile.proofs.LaidOver.{laidOver-pair}
-use Rattle.cyclefile.proofs.OnePair.{taken-within}
 use Rattle.cyclefile.proofs.PlainSteps.{stepped, stops}
 use Rattle.cyclefile.proofs.PairByPair.{length-read}
 
@@ -39,13 +37,9 @@ stored-over (p ∷ ps) qs old i e h =
     ∙ stored-over ps (qs ++ (p ∷ [])) old (i + 1) (length-append qs (p ∷ []) ∙ ap (λ (k : ℕ). k + 1) e) (omega arith)
     ∙ ap (λ (l : List Pair). laidOver (flatten l) old) (append-assoc qs (p ∷ []) ps)
 
-padded-is : (ps : List Pair) → length ps ≤ 512 → laidOver (flatten ps) zeros ≡ padded (flatten ps)
-unfolding unpacked
-padded-is ps h = rw length-flatten (rw (held-all (length ps) h, take-length) at (laid-all ps))
-
 -- all of them, over zeros
 stored-all : (ps : List Pair) → length ps ≤ 512 → stored 0 ps zeros ≡ padded (flatten ps)
-stored-all ps h = stored-over ps [] zeros 0 refl (omega (arith, length-zeros)) ∙ padded-is ps h
+stored-all ps h = stored-over ps [] zeros 0 refl (omega (arith, length-zeros)) ∙ sym (padded-is (flatten ps))
 
 -- the answer where i pairs are stored in the words and the rest reads so
 abbrev pub parsedAfter : List ℕ → ℕ → CycleRead → Parsed

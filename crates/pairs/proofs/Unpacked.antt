@@ -62,7 +62,7 @@ laid-next ps i h k =
     twice : 2 * suc i ≡ suc (suc (2 * i))
     twice = omega arith
 
-padded-is : (l : List ℕ) → padded l ≡ l ++ drop (length l) zeros
+pub padded-is : (l : List ℕ) → padded l ≡ l ++ drop (length l) zeros
 unfolding padded zeros
 padded-is l = ap (λ (r : List ℕ). l ++ r) (sym (drop-replicate (length l) 1024 0))
 

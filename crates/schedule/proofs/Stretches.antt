@@ -27,12 +27,6 @@ module _ (s : Schedule) (a e : ℕ) where
   unfolding heldFrom
   heldFrom-more n i t h = rw (add-one n, h, heldFrom)
 
-  -- one report more, with the reports counted up to e
-  pub heldFrom-step : (i t : ℕ) → i < e → t < e → heldFrom s a e (e - i) i t ≡ cond (leb a t) (s .size i) 0 + heldFrom s a e (e - (i + 1)) (i + 1) (t + s .gap i)
-  heldFrom-step i t hi ht =
-      let q : e - i ≡ e - (i + 1) + 1 = omega arith in
-      rw q (heldFrom-more (e - (i + 1)) i t (lt-ltb t e ht))
-
 -- Where lo is the number of reports before minute a, and hi that of those before e.
 module _ (s : Schedule) (a e lo hi : ℕ) (before : (i : ℕ) → minute s i < a ↔ i < lo) (until : (i : ℕ) → minute s i < e ↔ i < hi) where
   minute-more : (i : ℕ) → minute s (i + 1) ≡ minute s i + s .gap i
