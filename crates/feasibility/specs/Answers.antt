@@ -2,6 +2,7 @@
 -- and values for each case."
 use Prim.Native.Nat.{ℕ}
 use mathlib.Core.List.{List, [], _∷_}
+use Rattle.plan.specs.Plans.{planNumbers}
 use Rattle.feasibility.specs.declared.Condition.{Condition}
 use Rattle.feasibility.specs.declared.Condition.the-variants.{BoundsFitRates, FewestReportsFitBudget, EnoughReportsForDemand, SupplyCoversDemand}
 use Rattle.feasibility.specs.declared.Consistency.{Consistency}
@@ -29,13 +30,13 @@ consistencyAnswer Consistent = record { number = 0; values = [] }
 consistencyAnswer (FailsCondition c) = record { number = 7; values = conditionNumber c ∷ [] }
 consistencyAnswer (NotJudged n) = record { number = n; values = [] }
 
--- a schedule for k reports: k, π, δ and its supply figure, or 3 to 6
+-- a schedule for k reports: its plan's numbers and its supply figure, or 3 to 6
 abbrev pub scheduledAnswer : Scheduled → Answer
-scheduledAnswer (Found plan v) = record { number = 0; values = plan .count ∷ plan .period ∷ plan .total ∷ v ∷ [] }
+scheduledAnswer (Found plan v) = record { number = 0; values = planNumbers plan (v ∷ []) }
 scheduledAnswer (NoneFound n) = record { number = n; values = [] }
 
--- the test: k, π, δ and the supply figure of the plan that it passes, or 7 with the condition, or 3, 4, 5, 8, 9
+-- the test: the numbers of the plan that it passes and its supply figure, or 7 with the condition, or 3, 4, 5, 8, 9
 abbrev pub testedAnswer : Tested → Answer
-testedAnswer (Passed plan v) = record { number = 0; values = plan .count ∷ plan .period ∷ plan .total ∷ v ∷ [] }
+testedAnswer (Passed plan v) = record { number = 0; values = planNumbers plan (v ∷ []) }
 testedAnswer (Inconsistent c) = record { number = 7; values = conditionNumber c ∷ [] }
 testedAnswer (Refused n) = record { number = n; values = [] }

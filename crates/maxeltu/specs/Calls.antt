@@ -14,6 +14,7 @@ use Rattle.plan.specs.declared.Kind.the-variants.{WellFormed, Even}
 use Rattle.plan.specs.declared.Plan.{Plan}
 use Rattle.plan.specs.declared.Reported.{Reported}
 use Rattle.plan.specs.declared.Reported.the-variants.{At, Refused as NotReported}
+use Rattle.plan.specs.Plans.{planNumbers}
 use Rattle.plan.specs.Reports.{reportOf}
 use Rattle.feasibility.specs.Answers.{Answer, consistencyAnswer, scheduledAnswer, testedAnswer}
 use Rattle.feasibility.specs.Consistency.{consistencyOf}
@@ -32,9 +33,13 @@ unfoldable pub withSpec : SpecRead → (Spec → Answer) → Answer
 withSpec (Accepted s) call = call s
 withSpec (NotRead n) call = refusal n
 
--- the even plan: k, π, δ
+-- a plan by its numbers
+abbrev pub planOf : Kind → ℕ → ℕ → ℕ → Plan
+planOf kind k π δ = record { kind = kind; count = k; period = π; total = δ }
+
+-- the even plan: its numbers, or 3, 4, 10
 abbrev pub evenAnswer : EvenPlan → Answer
-evenAnswer (Found p) = record { number = 0; values = p .count ∷ p .period ∷ p .total ∷ [] }
+evenAnswer (Found p) = record { number = 0; values = planNumbers p [] }
 evenAnswer (Refused n) = refusal n
 
 -- a report: minute, size
@@ -56,9 +61,6 @@ testCall bytes = withSpec (readSpec bytes) (λ s. testedAnswer (testOf s))
 
 unfoldable pub evenCall : List ℕ → Answer
 evenCall bytes = withSpec (readSpec bytes) (λ s. evenAnswer (evenPlan s))
-
-abbrev pub planOf : Kind → ℕ → ℕ → ℕ → Plan
-planOf kind k π δ = record { kind = kind; count = k; period = π; total = δ }
 
 -- kind 0 is the well-formed kind, 1 the even kind; no other number names a kind, so there is no proper plan of it
 unfoldable pub reportCall : ℕ → ℕ → ℕ → ℕ → ℕ → Answer

@@ -78,9 +78,9 @@ pub extern "C" fn maxeltu_consistency(spec_bytes: &[u8], condition: &mut u32) ->
 
 fn schedule_answer(found: Scheduled, period: &mut u32, total: &mut u32, figure: &mut u32) -> u32
     ensures { λ r. ⌜ (r ≡ scheduledAnswer found .number)
-        × (now (period .exit) ≡ after 0 1 (scheduledAnswer found) (now (period .entry)))
-        × (now (total .exit) ≡ after 0 2 (scheduledAnswer found) (now (total .entry)))
-        × (now (figure .exit) ≡ after 0 3 (scheduledAnswer found) (now (figure .entry))) ⌝ }
+        × (now (period .exit) ≡ after 0 2 (scheduledAnswer found) (now (period .entry)))
+        × (now (total .exit) ≡ after 0 3 (scheduledAnswer found) (now (total .entry)))
+        × (now (figure .exit) ≡ after 0 4 (scheduledAnswer found) (now (figure .entry))) ⌝ }
 {
     match found {
         Scheduled::Found { plan: p, supply } => {
@@ -103,9 +103,9 @@ pub extern "C" fn maxeltu_min_demand(
     required: &mut u32,
 ) -> u32
     ensures { λ r. ⌜ (r ≡ minDemandCall (now («spec_bytes» .entry)) k .number)
-        × (now (period .exit) ≡ after 0 1 (minDemandCall (now («spec_bytes» .entry)) k) (now (period .entry)))
-        × (now (total .exit) ≡ after 0 2 (minDemandCall (now («spec_bytes» .entry)) k) (now (total .entry)))
-        × (now (required .exit) ≡ after 0 3 (minDemandCall (now («spec_bytes» .entry)) k) (now (required .entry))) ⌝ }
+        × (now (period .exit) ≡ after 0 2 (minDemandCall (now («spec_bytes» .entry)) k) (now (period .entry)))
+        × (now (total .exit) ≡ after 0 3 (minDemandCall (now («spec_bytes» .entry)) k) (now (total .entry)))
+        × (now (required .exit) ≡ after 0 4 (minDemandCall (now («spec_bytes» .entry)) k) (now (required .entry))) ⌝ }
 {
     let read = spec::read_spec(spec_bytes);
     let SpecRead::Accepted(s) = read else {
@@ -124,9 +124,9 @@ pub extern "C" fn maxeltu_max_supply(
     available: &mut u32,
 ) -> u32
     ensures { λ r. ⌜ (r ≡ maxSupplyCall (now («spec_bytes» .entry)) k .number)
-        × (now (period .exit) ≡ after 0 1 (maxSupplyCall (now («spec_bytes» .entry)) k) (now (period .entry)))
-        × (now (total .exit) ≡ after 0 2 (maxSupplyCall (now («spec_bytes» .entry)) k) (now (total .entry)))
-        × (now (available .exit) ≡ after 0 3 (maxSupplyCall (now («spec_bytes» .entry)) k) (now (available .entry))) ⌝ }
+        × (now (period .exit) ≡ after 0 2 (maxSupplyCall (now («spec_bytes» .entry)) k) (now (period .entry)))
+        × (now (total .exit) ≡ after 0 3 (maxSupplyCall (now («spec_bytes» .entry)) k) (now (total .entry)))
+        × (now (available .exit) ≡ after 0 4 (maxSupplyCall (now («spec_bytes» .entry)) k) (now (available .entry))) ⌝ }
 {
     let read = spec::read_spec(spec_bytes);
     let SpecRead::Accepted(s) = read else {
@@ -145,10 +145,10 @@ fn test_answer(
 ) -> u32
     ensures { λ r. ⌜ (r ≡ testedAnswer found .number)
         × (now (condition .exit) ≡ after 7 0 (testedAnswer found) (now (condition .entry)))
-        × (now (k .exit) ≡ after 0 0 (testedAnswer found) (now (k .entry)))
-        × (now (period .exit) ≡ after 0 1 (testedAnswer found) (now (period .entry)))
-        × (now (total .exit) ≡ after 0 2 (testedAnswer found) (now (total .entry)))
-        × (now (supply .exit) ≡ after 0 3 (testedAnswer found) (now (supply .entry))) ⌝ }
+        × (now (k .exit) ≡ after 0 1 (testedAnswer found) (now (k .entry)))
+        × (now (period .exit) ≡ after 0 2 (testedAnswer found) (now (period .entry)))
+        × (now (total .exit) ≡ after 0 3 (testedAnswer found) (now (total .entry)))
+        × (now (supply .exit) ≡ after 0 4 (testedAnswer found) (now (supply .entry))) ⌝ }
 {
     match found {
         Tested::Passed {
@@ -181,10 +181,10 @@ pub extern "C" fn maxeltu_test(
 ) -> u32
     ensures { λ r. ⌜ (r ≡ testCall (now («spec_bytes» .entry)) .number)
         × (now (condition .exit) ≡ after 7 0 (testCall (now («spec_bytes» .entry))) (now (condition .entry)))
-        × (now (k .exit) ≡ after 0 0 (testCall (now («spec_bytes» .entry))) (now (k .entry)))
-        × (now (period .exit) ≡ after 0 1 (testCall (now («spec_bytes» .entry))) (now (period .entry)))
-        × (now (total .exit) ≡ after 0 2 (testCall (now («spec_bytes» .entry))) (now (total .entry)))
-        × (now (supply .exit) ≡ after 0 3 (testCall (now («spec_bytes» .entry))) (now (supply .entry))) ⌝ }
+        × (now (k .exit) ≡ after 0 1 (testCall (now («spec_bytes» .entry))) (now (k .entry)))
+        × (now (period .exit) ≡ after 0 2 (testCall (now («spec_bytes» .entry))) (now (period .entry)))
+        × (now (total .exit) ≡ after 0 3 (testCall (now («spec_bytes» .entry))) (now (total .entry)))
+        × (now (supply .exit) ≡ after 0 4 (testCall (now («spec_bytes» .entry))) (now (supply .entry))) ⌝ }
 {
     let read = spec::read_spec(spec_bytes);
     let SpecRead::Accepted(s) = read else {
@@ -195,9 +195,9 @@ pub extern "C" fn maxeltu_test(
 
 fn even_answer(found: EvenPlan, k: &mut u32, period: &mut u32, total: &mut u32) -> u32
     ensures { λ r. ⌜ (r ≡ evenAnswer found .number)
-        × (now (k .exit) ≡ after 0 0 (evenAnswer found) (now (k .entry)))
-        × (now (period .exit) ≡ after 0 1 (evenAnswer found) (now (period .entry)))
-        × (now (total .exit) ≡ after 0 2 (evenAnswer found) (now (total .entry))) ⌝ }
+        × (now (k .exit) ≡ after 0 1 (evenAnswer found) (now (k .entry)))
+        × (now (period .exit) ≡ after 0 2 (evenAnswer found) (now (period .entry)))
+        × (now (total .exit) ≡ after 0 3 (evenAnswer found) (now (total .entry))) ⌝ }
 {
     match found {
         EvenPlan::Found(p) => {
@@ -219,9 +219,9 @@ pub extern "C" fn maxeltu_even_plan(
     total: &mut u32,
 ) -> u32
     ensures { λ r. ⌜ (r ≡ evenCall (now («spec_bytes» .entry)) .number)
-        × (now (k .exit) ≡ after 0 0 (evenCall (now («spec_bytes» .entry))) (now (k .entry)))
-        × (now (period .exit) ≡ after 0 1 (evenCall (now («spec_bytes» .entry))) (now (period .entry)))
-        × (now (total .exit) ≡ after 0 2 (evenCall (now («spec_bytes» .entry))) (now (total .entry))) ⌝ }
+        × (now (k .exit) ≡ after 0 1 (evenCall (now («spec_bytes» .entry))) (now (k .entry)))
+        × (now (period .exit) ≡ after 0 2 (evenCall (now («spec_bytes» .entry))) (now (period .entry)))
+        × (now (total .exit) ≡ after 0 3 (evenCall (now («spec_bytes» .entry))) (now (total .entry))) ⌝ }
 {
     let read = spec::read_spec(spec_bytes);
     let SpecRead::Accepted(s) = read else {

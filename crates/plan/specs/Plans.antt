@@ -2,11 +2,21 @@
 -- paragraph: the endless run of a plan.
 use Prim.Native.Nat.{ℕ, _+_, _-_, _*_, _/_, _%_}
 use mathlib.Core.Bool.{Bool, true, cond, _&&_}
+use mathlib.Core.List.{List, _∷_}
 use lib.Dec.{leb, ltb, eqb}
 use Rattle.schedule.specs.Schedules.{Schedule}
 use Rattle.plan.specs.declared.Kind.{Kind}
 use Rattle.plan.specs.declared.Kind.the-variants.{WellFormed, Even}
 use Rattle.plan.specs.declared.Plan.{Plan}
+
+-- the kind as a number
+abbrev pub kindNumber : Kind → ℕ
+kindNumber WellFormed = 0
+kindNumber Even = 1
+
+-- "A plan is a kind, k reports in a period, the period's length π in minutes and its total δ in records": those numbers, before others
+abbrev pub planNumbers : Plan → List ℕ → List ℕ
+planNumbers p others = kindNumber (p .kind) ∷ p .count ∷ p .period ∷ p .total ∷ others
 
 -- "and for the even kind k divides π"
 abbrev pub kindFits : Kind → ℕ → ℕ → Bool

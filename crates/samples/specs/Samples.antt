@@ -14,12 +14,10 @@ use Rattle.spec.specs.declared.SpecRead.the-variants.{Accepted, Refused as NotR
 use Rattle.spec.specs.Limits.{specNumber, limits, order, rateLimits, durationLimits, durationOrder, sizeAllowed, gapAllowed, gapTop}
 use Rattle.spec.specs.File.{readSpec, judged as judgedSpec}
 use Rattle.schedule.specs.Schedules.{Schedule, sum, minute, heldFrom, stretch}
-use Rattle.plan.specs.declared.Kind.{Kind}
-use Rattle.plan.specs.declared.Kind.the-variants.{WellFormed, Even}
 use Rattle.plan.specs.declared.Plan.{Plan}
 use Rattle.plan.specs.declared.Reported.{Reported}
 use Rattle.plan.specs.declared.Reported.the-variants.{At, Refused as NotReported}
-use Rattle.plan.specs.Plans.{proper, run, kindRun, wellSize, wellGap, evenSize}
+use Rattle.plan.specs.Plans.{planNumbers, proper, run, kindRun, wellSize, wellGap, evenSize}
 use Rattle.plan.specs.Reports.{reportOf}
 use Rattle.feasibility.specs.declared.Consistency.{Consistency}
 use Rattle.feasibility.specs.declared.Scheduled.{Scheduled}
@@ -76,12 +74,15 @@ scheduleReports : Scheduled → List ℕ → List ℕ → Bool
 scheduleReports (Scheduled-Found p v) minutes sizes = reportsAre p 0 minutes sizes
 scheduleReports (NotScheduled n) minutes sizes = false
 
-isEven : Kind → Bool
-isEven WellFormed = false
-isEven Even = true
+-- the kinds, as numbers
+wellFormed : ℕ
+wellFormed = 0
+
+even : ℕ
+even = 1
 
 evenIs : EvenPlan → ℕ → ℕ → ℕ → Bool
-evenIs (Found p) gap k total = isEven (p .kind) && eqb (p .count) k && eqb (p .period) (k * gap) && eqb (p .total) total
+evenIs (Found p) gap k total = same (planNumbers p []) (even ∷ k ∷ k * gap ∷ total ∷ [])
 evenIs (Refused n) gap k total = false
 
 evenReportsAre : EvenPlan → List ℕ → List ℕ → Bool
@@ -114,10 +115,10 @@ readTo (NotRead n) s = false
 
 claimHolds : Spec → Claim → Bool
 claimHolds s isConsistent = answerIs (consistencyAnswer (consistencyOf s)) 0 []
-claimHolds s (minimumDemand k π δ v) = answerIs (scheduledAnswer (minimumDemandFor s k)) 0 (k ∷ π ∷ δ ∷ v ∷ [])
+claimHolds s (minimumDemand k π δ v) = answerIs (scheduledAnswer (minimumDemandFor s k)) 0 (wellFormed ∷ k ∷ π ∷ δ ∷ v ∷ [])
 claimHolds s (minimumDemandReports k minutes sizes) = scheduleReports (minimumDemandFor s k) minutes sizes
-claimHolds s (maximumSupply k π δ v) = answerIs (scheduledAnswer (maximumSupplyFor s k)) 0 (k ∷ π ∷ δ ∷ v ∷ [])
-claimHolds s (testPasses k π δ v) = answerIs (testedAnswer (testOf s)) 0 (k ∷ π ∷ δ ∷ v ∷ [])
+claimHolds s (maximumSupply k π δ v) = answerIs (scheduledAnswer (maximumSupplyFor s k)) 0 (wellFormed ∷ k ∷ π ∷ δ ∷ v ∷ [])
+claimHolds s (testPasses k π δ v) = answerIs (testedAnswer (testOf s)) 0 (wellFormed ∷ k ∷ π ∷ δ ∷ v ∷ [])
 claimHolds s (testRefuses n) = answerIs (testedAnswer (testOf s)) n []
 claimHolds s (evenGives g k δ) = evenIs (evenPlan s) g k δ
 claimHolds s (evenReports minutes sizes) = evenReportsAre (evenPlan s) minutes sizes
@@ -192,5 +193,5 @@ samplesHold (x ∷ xs) = claimsHold (x .spec) (x .claims) && samplesHold xs
 
 -- Every value of the table is what the definitions compute.
 pub samples-hold : samplesHold samples ≡ true
-unfolding samplesHold samples sample cycle claimsHold claimHolds same answerIs reportIs reportsAre scheduleReports isEven evenIs evenReportsAre evenRefusal sameRate sameDuration readTo specNumber limits order rateLimits durationLimits durationOrder sizeAllowed gapAllowed gapTop readSpec judgedSpec sum minute heldFrom stretch proper run kindRun wellSize wellGap evenSize reportOf consistencyOf conditionsOf boundsFitRates sizeFitsBudget gapFitsDemand demandFitsDuration fewestReportsFitBudget enoughReportsForDemand supplyCoversDemand whereRate whereDuration ceil scheduleFor ifRates bothRates ratesFrom scheduled exists planFor periodFor totalFor supplyFigure required available least testOf testRates testConditions testTaken passes taken lastCount takenUpTo betterOf isBetter familyOf evenPlan planOr10 evenPlanAt evenGap largest fits supplyFits demandFits totalOf countAt mostIn pairGap pairSize cycleRun round checkNumber cycleNumber countAllowed gapsAllowed sizesAllowed supplyKept demandMet all
+unfolding samplesHold samples sample cycle claimsHold claimHolds same answerIs reportIs reportsAre scheduleReports wellFormed even evenIs evenReportsAre evenRefusal sameRate sameDuration readTo specNumber limits order rateLimits durationLimits durationOrder sizeAllowed gapAllowed gapTop readSpec judgedSpec sum minute heldFrom stretch proper run kindRun wellSize wellGap evenSize reportOf consistencyOf conditionsOf boundsFitRates sizeFitsBudget gapFitsDemand demandFitsDuration fewestReportsFitBudget enoughReportsForDemand supplyCoversDemand whereRate whereDuration ceil scheduleFor ifRates bothRates ratesFrom scheduled exists planFor periodFor totalFor supplyFigure required available least testOf testRates testConditions testTaken passes taken lastCount takenUpTo betterOf isBetter familyOf evenPlan planOr10 evenPlanAt evenGap largest fits supplyFits demandFits totalOf countAt mostIn pairGap pairSize cycleRun round checkNumber cycleNumber countAllowed gapsAllowed sizesAllowed supplyKept demandMet all
 samples-hold = refl
