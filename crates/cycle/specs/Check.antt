@@ -1,11 +1,11 @@
 -- Document 01, "Checking a cycle: 12 count 0 or above 512; 13 some gap out of range; 14 some size; 15 some R minutes too full; 16 some
 -- P minutes too thin", after 3 and 4, with which every operation on a specification begins. "A refusal yields its number, the first
 -- that applies"; "a cycle is passed when its check gives no refusal number".
-use Prim.Native.Nat.{ℕ, zero, suc, _*_}
+use Prim.Native.Nat.{ℕ, zero, suc}
 use mathlib.Core.List.{List}
 use mathlib.Core.Bool.{Bool, true, false, cond}
 use lib.Dec.{leb, eqb}
-use lib.ListN.{length, take}
+use lib.ListN.{length}
 use Rattle.spec.specs.declared.Rate.{Rate}
 use Rattle.spec.specs.declared.Rate.the-variants.{Absent, Present}
 use Rattle.spec.specs.declared.Spec.{Spec}
@@ -13,8 +13,6 @@ use Rattle.spec.specs.declared.SpecRead.{SpecRead}
 use Rattle.spec.specs.declared.SpecRead.the-variants.{Accepted, Refused}
 use Rattle.spec.specs.Limits.{between, specNumber, sizeAllowed, gapAllowed}
 use Rattle.pairs.specs.declared.Pair.{Pair}
-use Rattle.pairs.specs.declared.Flat.{Flat}
-use Rattle.pairs.specs.Pairs.{pairsOf, held}
 use Rattle.schedule.specs.Schedules.{stretch}
 use Rattle.cycle.specs.Cycles.{pairGap, pairSize, cycleRun, round}
 
@@ -58,11 +56,6 @@ cycleNumber spec ps =
 -- "Every operation given a specification as numbers begins with 3 and 4"
 unfoldable pub checkNumber : Spec → List Pair → ℕ
 checkNumber spec ps = cond (eqb (specNumber spec) 0) (cycleNumber spec ps) (specNumber spec)
-
--- The pairs of a flat form: of more than 512 it holds none, and those get the same number. `same-number` of proofs/FlatForms.antt
--- says that of every list of pairs the flat form gets the list's own number.
-unfoldable pub flatPairs : Flat → List Pair
-flatPairs flat = pairsOf (take (2 * held (flat .count)) (flat .words))
 
 -- the same given a specification's file: 1 to 4 first
 unfoldable pub checkFileNumber : SpecRead → List Pair → ℕ

@@ -1,5 +1,6 @@
 -- What the check's number says of the endless run, for every cycle: document 01's "a cycle is passed when its check gives no refusal
--- number", against the four rules at every starting minute. Proved in proofs/CyclesPassed.antt and proofs/Rounds.antt.
+-- number", against the four rules at every starting minute. Proved in proofs/CyclesPassed.antt,
+-- proofs/FlatForms.antt and proofs/Rounds.antt.
 use Prim.Native.Nat.{ℕ, _+_, _*_, _/_, _%_, _≤_, _<_}
 use mathlib.Core.Path.{_≡_}
 use mathlib.Core.Logic.{_↔_}
@@ -11,6 +12,7 @@ use Rattle.spec.specs.declared.Rate.the-variants.{Absent, Present}
 use Rattle.spec.specs.declared.Spec.{Spec}
 use Rattle.spec.specs.Limits.{IsAccepted, sizeAllowed, gapAllowed}
 use Rattle.pairs.specs.declared.Pair.{Pair}
+use Rattle.pairs.specs.Pairs.{unpacked, flatPairs}
 use Rattle.schedule.specs.Schedules.{Schedule, stretch}
 use Rattle.schedule.specs.Rules.{Obeys}
 use Rattle.cycle.specs.Cycles.{pairGap, pairSize, cycleRun, round, roundRecords}
@@ -21,6 +23,10 @@ abbrev pub PassedObeys : Type 0
 PassedObeys =
     (spec : Spec) (ps : List Pair) → IsAccepted spec → 1 ≤ length ps → length ps ≤ 512
     → (checkNumber spec ps ≡ 0) ↔ Obeys spec (cycleRun ps)
+
+-- Of every list of pairs, however long, the flat form gets the list's own number.
+abbrev pub FlatSameNumber : Type 0
+FlatSameNumber = (spec : Spec) (ps : List Pair) → checkNumber spec (flatPairs (unpacked ps)) ≡ checkNumber spec ps
 
 -- some stretch of R minutes holds more than B records
 abbrev pub TooFull : Rate → Schedule → Type 0

@@ -16,8 +16,8 @@ ghost use Prim.Native.Nat.{_*_, _/_, _≤_};
 ghost use lib.ListN.{length, take};
 ghost use Rattle.spec.specs.Limits.{rateLimits};
 ghost use Rattle.spec.specs.File.{readSpec};
-ghost use Rattle.pairs.specs.Pairs.{pairsOf};
-ghost use Rattle.cycle.specs.Check.{gapsAllowed, sizesAllowed, supplyKept, demandMet, checkNumber, flatPairs, checkFileNumber};
+ghost use Rattle.pairs.specs.Pairs.{pairsOf, flatPairs};
+ghost use Rattle.cycle.specs.Check.{gapsAllowed, sizesAllowed, supplyKept, demandMet, checkNumber, checkFileNumber};
 ghost use Rattle.cycle.specs.Windows.{Walkable};
 
 // Whether every gap, every size is in range.

@@ -1,24 +1,26 @@
 -- Laws for the functions over lent lists of pairs: what their covered callees say of a flat form or a cursor, said of the pairs.
 -- Assumes nothing.
 use mathlib.Core.Path.{_≡_, refl, sym, ap, _∙_}
-use Prim.Native.Nat.{ℕ, suc, _+_, _*_, _≤_, _<_, zero-le}
+use Prim.Native.Nat.{ℕ, zero, suc, _+_, _*_, _≤_, _<_, zero-le}
 use native.Mathlib.Numerals.{add-one}
 use native.Mathlib.Omega.{arith}
-use mathlib.Core.Bool.{Bool, true, false, cond}
+use native.Mathlib.Decide.{decLt}
+use mathlib.Core.Bool.{Bool, true, false, cond, true≢false, and-false}
 use mathlib.Core.List.{List, [], _∷_}
 use lib.Dec.{eqb}
 use lib.ListN.{length, set, take, length-append}
-use borrow.Author.Tests.{eqb-true}
+use borrow.Author.Tests.{eqb-true, le-leb, lt-leb}
 use Rattle.pairs.specs.declared.Pair.{Pair}
 use Rattle.pairs.specs.declared.Flat.{Flat}
-use Rattle.pairs.specs.Pairs.{pairsOf, unpacked}
-use Rattle.pairs.proofs.Unpacked.{unpacked-pairs, count-unpacked}
+use Rattle.pairs.specs.Pairs.{pairsOf, unpacked, flatPairs}
+use Rattle.pairs.proofs.Unpacked.{flat-none, flat-all, flat-of-few, flat-of-many}
 use Rattle.cyclefile.specs.declared.Cursor.{Cursor}
 use Rattle.cyclefile.specs.declared.Begun.{Begun}
 use Rattle.cyclefile.specs.declared.Judged.the-variants.{Count, Refused}
 use Rattle.cyclefile.specs.declared.Written.the-variants.{Bytes, Refused as NotWritten}
 use Rattle.cyclefile.specs.Refusals.{wrongCount}
 use Rattle.cyclefile.specs.File.{Before, none, after, countIn, pairsBytes, cycleBytes, writeNumber, bytesAfter, CycleRead, pairs, refused, readCycle, laidOver, placesAfter, numberOf, countAfter, Reads, Writes}
+use Rattle.cyclefile.specs.Statements.{FlatWritesSame}
 use Rattle.cyclefile.specs.Steps.{start, cursorAt, firstPairs, judged, begun, written}
 use Rattle.cyclefile.proofs.LaidOver.{length-laidOver, laidOver-next}
 use Rattle.cyclefile.proofs.PairByPair.{length-firstPairs}
@@ -61,17 +63,22 @@ begun-cursor (refused n) = refl
 
 -- ---- writing
 
--- the pairs that a flat form of at most 512 pairs holds
-pub flat-pairs : (f : Flat) (ps : List Pair) → f ≡ unpacked ps → countIn (f .count) ≡ true → pairsOf (take (2 * f .count) (f .words)) ≡ ps
-flat-pairs f ps e h =
-    let n : f .count ≡ length ps = ap (λ (g : Flat). g .count) e ∙ count-unpacked ps in
-    ap (λ (g : Flat). pairsOf (take (2 * g .count) (g .words))) e ∙ unpacked-pairs ps (rw (← n) (countIn-true (f .count) h .1))
+-- where the count is wrong, the flat form holds no pair
+pub none-counted : (f : Flat) → countIn (f .count) ≡ false → flatPairs f ≡ []
+none-counted f h = elim (decLt 512 (f .count)) [ yes many ↦ flat-none f many | no few ↦ empty (f .count) refl (omega arith) ]
+  where
+    empty : (n : ℕ) → f .count ≡ n → n ≤ 512 → flatPairs f ≡ []
+    empty zero e few = flat-all f (omega arith) ∙ rw e
+    empty (suc n) e few = absurd (true≢false (sym (rw (e, le-leb 1 (suc n) (omega arith), le-leb (suc n) 512 few)) ∙ h))
 
-pub not-counted : (f : Flat) (ps : List Pair) → f ≡ unpacked ps → countIn (f .count) ≡ false → (file : List ℕ) (old : ℕ) → Writes ps file old wrongCount file old
+-- and its pairs are the first of its words, where the count is right
+pub all-counted : (f : Flat) → countIn (f .count) ≡ true → pairsOf (take (2 * f .count) (f .words)) ≡ flatPairs f
+all-counted f h = sym (flat-all f (countIn-true (f .count) h .1))
+
+-- a list whose count is wrong is not written
+pub not-counted : (ps : List Pair) → countIn (length ps) ≡ false → (file : List ℕ) (old : ℕ) → Writes ps file old wrongCount file old
 unfolding writeNumber
-not-counted f ps e h file old =
-    let n : countIn (length ps) ≡ false = ap countIn (sym (ap (λ (g : Flat). g .count) e ∙ count-unpacked ps)) ∙ h in
-    record { answer-is = simp n; bytes-are = simp n; written-is = simp n }
+not-counted ps h file old = record { answer-is = simp h; bytes-are = simp h; written-is = simp h }
 
 wrote-by : (room : ℕ) (ps : List Pair) (n : ℕ) (t : Bool) → eqb (writeNumber room ps) 0 ≡ t → Bytes n ≡ cond t (Bytes (length (cycleBytes ps))) (NotWritten (writeNumber room ps)) → (t ≡ true) × (n ≡ length (cycleBytes ps))
 wrote-by room ps n true e h = (refl, cc)
@@ -90,6 +97,17 @@ pub wrote-nothing : (ps : List Pair) (file file′ : List ℕ) (old n : ℕ) →
 wrote-nothing ps file file′ old n h k =
     let w = refused-by (length file) ps n (eqb (writeNumber (length file) ps) 0) refl h in
     record { answer-is = w .1; bytes-are = k; written-is = rw (w .0) }
+
+-- more than 512 pairs are refused as none are
+pub flat-writes-same : FlatWritesSame
+unfolding writeNumber
+flat-writes-same ps file old n file′ m w =
+    elim (decLt 512 (length ps)) [ yes many ↦ as-none many (rw (flat-of-many ps many) at w) | no few ↦ rw (flat-of-few ps (omega arith)) at w ]
+  where
+    as-none : 512 < length ps → Writes [] file old n file′ m → Writes ps file old n file′ m
+    as-none many w′ =
+        let out : countIn (length ps) ≡ false = rw (lt-leb (length ps) 512 many, and-false) in
+        record { answer-is = simp out (w′ .answer-is); bytes-are = simp out (w′ .bytes-are); written-is = simp out (w′ .written-is) }
 
 -- the length of a file that is written fits 32 bits
 pairsBytes-small : (before : Before) (ps : List Pair) → length (pairsBytes before ps) ≤ 5 * length ps

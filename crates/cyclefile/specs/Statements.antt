@@ -1,10 +1,12 @@
--- What is proved of the cycle file as a whole, for every cycle and every file (`proofs/RoundTrip`).
+-- What is proved of the cycle file as a whole, for every cycle and every file (`proofs/RoundTrip`, `proofs/WrittenBytes`,
+-- `proofs/PairForms`).
 use Prim.Native.Nat.{ℕ, _≤_, _<_}
 use mathlib.Core.Path.{_≡_}
 use mathlib.Core.List.{List, [], _∷_}
 use lib.ListN.{length, getD}
 use Rattle.pairs.specs.declared.Pair.{Pair}
-use Rattle.cyclefile.specs.File.{pairs, cycleBytes, readCycle}
+use Rattle.pairs.specs.Pairs.{unpacked, flatPairs}
+use Rattle.cyclefile.specs.File.{pairs, cycleBytes, readCycle, Writes}
 
 -- what is written can be read: the file of every cycle of 1 to 512 pairs reads as that cycle, where the lent list has the places
 abbrev pub ReadsBack : Type 0
@@ -30,3 +32,9 @@ Words (p ∷ ps) = (p .gap < 65536) × ((p .size < 65536) × Words ps)
 -- what is written is a file: every byte of it is one
 abbrev pub WritesBytes : Type 0
 WritesBytes = (ps : List Pair) → length ps ≤ 512 → Words ps → AreBytes (cycleBytes ps)
+
+-- of every list of pairs, however long, what is written of the flat form is what is written of the list
+abbrev pub FlatWritesSame : Type 0
+FlatWritesSame =
+    (ps : List Pair) (file : List ℕ) (written answer : ℕ) (file′ : List ℕ) (written′ : ℕ)
+    → Writes (flatPairs (unpacked ps)) file written answer file′ written′ → Writes ps file written answer file′ written′

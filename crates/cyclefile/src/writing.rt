@@ -11,14 +11,12 @@ use pairs::Flat;
 use pairs::Pair;
 use spec::refusal;
 ghost use mathlib.Core.Path.{_≡_};
-ghost use mathlib.Core.List.{List};
-ghost use Rattle.pairs.specs.declared.Pair.{Pair};
 ghost use Prim.Native.Nat.{_+_, _*_, _/_, _≤_, _<_};
 ghost use lib.Seq.{sets};
 ghost use lib.ListN.{length, getD, take};
 ghost use Rattle.cyclefile.specs.File.{none, fieldLength, mapByte, fieldBytes, pairBytes, pairsBytes, cycleBytes, bytesAfter, Writes};
 ghost use Rattle.cyclefile.specs.Steps.{beforeOf, past, written};
-ghost use Rattle.pairs.specs.Pairs.{unpacked, noPair, pairsOf};
+ghost use Rattle.pairs.specs.Pairs.{noPair, pairsOf, flatPairs};
 
 // Pair i of a flat slice.
 fn pair_in(words: &[u16], i: usize) -> Pair
@@ -148,9 +146,9 @@ fn write_words(words: &[u16; 1024], count: usize, file: &mut [u8]) -> Written
     write_flat(&all[..2 * count], file)
 }
 
-// Writes the cycle of a list that was laid flat, and tells the length of the file where it is written.
+// Writes the cycle that a flat form holds, and tells the length of the file where it is written.
 pub fn write_unpacked(f: Flat, file: &mut [u8], written: &mut u32) -> u32
-    ensures { λ r. ⌜ ((ps : List Pair) → f ≡ unpacked ps → Writes ps (now (file .entry)) (now (written .entry)) r (now (file .exit)) (now (written .exit))) ⌝ }
+    ensures { λ r. ⌜ Writes (flatPairs f) (now (file .entry)) (now (written .entry)) r (now (file .exit)) (now (written .exit)) ⌝ }
 {
     let count = f.count;
     if !count_in(count) {

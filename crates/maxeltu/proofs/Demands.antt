@@ -18,14 +18,17 @@ use Rattle.plan.specs.declared.Plan.{Plan}
 use Rattle.plan.specs.declared.Reported.the-variants.{At}
 use Rattle.plan.specs.Plans.{proper, run}
 use Rattle.plan.specs.Reports.{reportOf}
+use Rattle.schedule.proofs.StretchSum.{stretch-is-sum}
 use Rattle.feasibility.proofs.Theorems.{required-is-most, available-is-least, test-passes, test-sound}
 use Rattle.even.proofs.EvenPlans.{even-plan-obeys, even-plan-longest, even-plan-refused}
 use Rattle.pairs.specs.declared.Pair.{Pair}
 use Rattle.cycle.specs.Cycles.{cycleRun}
 use Rattle.cycle.proofs.CyclesPassed.{passed-obeys}
+use Rattle.cycle.proofs.FlatForms.{same-number}
 use Rattle.cyclefile.specs.File.{CycleRead, pairs, refused, readCycle, writeNumber, placesAfter, bytesAfter}
 use Rattle.cyclefile.proofs.RoundTrip.{reads-back, writes-back, reads-cycles}
 use Rattle.cyclefile.proofs.WrittenBytes.{writes-bytes}
+use Rattle.cyclefile.proofs.PairForms.{flat-writes-same}
 use Rattle.maxeltu.specs.Verdict.{verdictRead, verdictOf}
 use Rattle.maxeltu.specs.Demands.{Demands}
 use Rattle.maxeltu.proofs.Readings.{SpecIsRead, spec-is-read, CycleRefusal, cycle-numbered}
@@ -85,6 +88,7 @@ demands = record {
   cycle-read = λ places file. cycle-is-read places file (readCycle places file) refl;
   refused-list-kept = list-kept;
   refused-bytes-kept = bytes-kept;
+  stretch-sum = stretch-is-sum;
   required-supply = required-is-most;
   available-supply = available-is-least;
   test-best = λ s q p v rates e. test-passes s q p v rates .0 e .1;
@@ -92,6 +96,8 @@ demands = record {
   reads-back = reads-back;
   written-bytes = writes-bytes;
   writes-back = writes-back;
+  flat-checked = same-number;
+  flat-written = flat-writes-same;
   cycle-passed = passed-obeys;
   test-obeys = test-sound;
   even-obeys = even-plan-obeys;

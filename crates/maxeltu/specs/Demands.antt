@@ -10,7 +10,7 @@ use Rattle.spec.specs.declared.Spec.{Spec}
 use Rattle.spec.specs.declared.SpecRead.the-variants.{Accepted, Refused as NotRead}
 use Rattle.spec.specs.Limits.{IsAccepted}
 use Rattle.spec.specs.File.{readSpec}
-use Rattle.schedule.specs.Schedules.{Schedule, minute, stretch}
+use Rattle.schedule.specs.Schedules.{minute, stretch, StretchIsSum}
 use Rattle.schedule.specs.Rules.{Obeys}
 use Rattle.plan.specs.declared.Plan.{Plan}
 use Rattle.plan.specs.declared.Reported.the-variants.{At}
@@ -29,8 +29,9 @@ use Rattle.even.specs.Statements.{evenly}
 use Rattle.pairs.specs.declared.Pair.{Pair}
 use Rattle.cycle.specs.Cycles.{cycleRun}
 use Rattle.cycle.specs.Check.{checkNumber}
+use Rattle.cycle.specs.Statements.{FlatSameNumber}
 use Rattle.cyclefile.specs.File.{pairs, refused, cycleBytes, readCycle, writeNumber, placesAfter, bytesAfter}
-use Rattle.cyclefile.specs.Statements.{AreBytes, Words}
+use Rattle.cyclefile.specs.Statements.{AreBytes, Words, FlatWritesSame}
 use Rattle.maxeltu.specs.Verdict.{verdictOf}
 
 pub record Demands : Type 0 where
@@ -48,6 +49,8 @@ pub record Demands : Type 0 where
       → 0 < writeNumber (length held) c → bytesAfter c held ≡ held
   -- 2. The figures are those that document 01 defines, over every stretch and every k.
 
+  -- a stretch holds, summed, the sizes of the reports at its minutes, however many reports are looked at: every stretch below is such a sum
+  pub stretch-sum : StretchIsSum
   -- the required supply is what minutes 0 to R - 1 hold, and no stretch of R minutes holds more
   pub required-supply : (s : Spec) (q : Rates) (k : ℕ) (p : Plan) (v : ℕ) → bothRates s ≡ Both q → minimumDemandFor s k ≡ ScheduleOf p v
       → (stretch (run p) 0 (q .r) ≡ v) × ((a : ℕ) → stretch (run p) a (q .r) ≤ v)
@@ -64,6 +67,9 @@ pub record Demands : Type 0 where
   pub written-bytes : (c : List Pair) → length c ≤ 512 → Words c → AreBytes (cycleBytes c)
   -- a file that is read is the one that the writer makes of its contents
   pub writes-back : (places : ℕ) (file : List ℕ) (c : List Pair) → AreBytes file → readCycle places file ≡ pairs c → cycleBytes c ≡ file
+  -- of a list of pairs that is laid flat, the check and the writer say what they say of the list
+  pub flat-checked : FlatSameNumber
+  pub flat-written : FlatWritesSame
   -- 3. For every accepted specification:
 
   -- a cycle of 1 to 512 pairs is passed exactly when its endless run obeys the four rules at every starting minute from 0 on

@@ -10,10 +10,10 @@ use lib.Dec.{leb}
 use lib.ListN.{length, getD, set, take, drop, replicate, length-append, length-drop, length-replicate}
 use lib.Seq.{length-take-le, take-suc, take-length, take-at, drop-cons, set-at}
 use native.Mathlib.Nat.{le-refl}
-use borrow.Author.Tests.{le-leb, leb-true}
+use borrow.Author.Tests.{le-leb, lt-leb, leb-true}
 use Rattle.pairs.specs.declared.Pair.{Pair}
 use Rattle.pairs.specs.declared.Flat.{Flat}
-use Rattle.pairs.specs.Pairs.{noPair, flatten, pairsOf, padded, held, unpacked}
+use Rattle.pairs.specs.Pairs.{noPair, flatten, pairsOf, padded, held, unpacked, flatPairs}
 use Rattle.pairs.proofs.FlatLists.{length-flatten, flatten-append, pairsOf-flatten}
 
 -- it stays shut: a proof that computes it has 1,024 terms
@@ -102,6 +102,22 @@ unpacked-pairs ps h = ap pairsOf (unpacked-flat ps h) ∙ pairsOf-flatten ps
 pub count-unpacked : (ps : List Pair) → unpacked ps .count ≡ length ps
 unfolding unpacked
 count-unpacked ps = refl
+
+-- the pairs of a flat form, by its count
+pub flat-none : (flat : Flat) → 512 < flat .count → flatPairs flat ≡ []
+unfolding flatPairs
+flat-none flat h = rw (lt-leb (flat .count) 512 h)
+
+pub flat-all : (flat : Flat) → flat .count ≤ 512 → flatPairs flat ≡ pairsOf (take (2 * flat .count) (flat .words))
+unfolding flatPairs
+flat-all flat h = rw (le-leb (flat .count) 512 h)
+
+-- of a list of pairs, the flat form holds those pairs, or of more than 512 none
+pub flat-of-few : (ps : List Pair) → length ps ≤ 512 → flatPairs (unpacked ps) ≡ ps
+flat-of-few ps h = flat-all (unpacked ps) (omega (arith, count-unpacked ps)) ∙ unpacked-pairs ps h
+
+pub flat-of-many : (ps : List Pair) → 512 < length ps → flatPairs (unpacked ps) ≡ []
+flat-of-many ps h = flat-none (unpacked ps) (omega (arith, count-unpacked ps))
 
 pub length-unpacked : (ps : List Pair) → length (unpacked ps .words) ≡ 1024
 length-unpacked ps = ap length (sym (laid-all ps)) ∙ length-laid ps (held (length ps)) (held-least (length ps) .0) (held-least (length ps) .1)

@@ -1,7 +1,7 @@
 -- A cycle in memory. Document 01, "Cycles": "A cycle in memory is a lent list of pairs, gap then size, 1 to 512 of them (the count is the
 -- list's length), each number 0 to 65,535".
 -- Every definition over a cycle takes its list of pairs. A flat list of numbers is a way to hold one, and this file says which.
-use Prim.Native.Nat.{ℕ, _-_}
+use Prim.Native.Nat.{ℕ, _-_, _*_}
 use mathlib.Core.Bool.{cond}
 use mathlib.Core.List.{List, [], _∷_, _++_}
 use lib.Dec.{leb}
@@ -35,3 +35,7 @@ held n = cond (leb n 512) n 0
 -- the flat form of a list of pairs: its length, and the numbers of the pairs that are laid flat
 unfoldable pub unpacked : List Pair → Flat
 unpacked ps = record { words = padded (flatten (take (held (length ps)) ps)); count = length ps }
+
+-- the pairs that any flat form holds, whatever its words are past them: of a count above 512, none
+unfoldable pub flatPairs : Flat → List Pair
+flatPairs flat = pairsOf (take (2 * held (flat .count)) (flat .words))

@@ -1,6 +1,7 @@
 -- Document 01, "The specification", second paragraph: "A schedule is endless. Report 0 is at minute 0. A stretch of n minutes
 -- from a (a at least 0) is minutes a to a + n − 1. It holds, summed, the sizes of the reports at those minutes."
-use Prim.Native.Nat.{ℕ, zero, suc, _+_}
+use Prim.Native.Nat.{ℕ, zero, suc, _+_, _≤_}
+use mathlib.Core.Path.{_≡_}
 use mathlib.Core.Bool.{true, false, cond, _&&_}
 use lib.Dec.{leb, ltb}
 
@@ -28,11 +29,14 @@ heldFrom s a e (suc n) i t =
 -- What the stretch of w minutes from a holds: minutes a to a + w - 1.
 -- "A gap of 0 is below every range, so no stretch need be summed there": where no gap is 0, report i is at minute i or later,
 -- so every report of those minutes is among the first a + w. It walks the reports with their minutes carried along, so that
--- it computes; `stretch-sum` and `stretch-sum-all` of proofs/StretchSum.antt say that it is the plain sum of what the reports
--- add, over that many reports or any number more.
+-- it computes; `StretchIsSum` below says that it is the plain sum.
 unfoldable pub stretch : Schedule → ℕ → ℕ → ℕ
 stretch s a w = heldFrom s a (a + w) (a + w) 0 0
 
 -- what report i adds to the stretch of w minutes from a: its size where its minute is one of them
 unfoldable pub share : Schedule → ℕ → ℕ → ℕ → ℕ
 share s a w i = cond (leb a (minute s i) && ltb (minute s i) (a + w)) (s .size i) 0
+
+-- A stretch of any length from any start is the plain sum of what the reports add to it: of the first a + w, or of any number more.
+abbrev pub StretchIsSum : Type 0
+StretchIsSum = (s : Schedule) → ((i : ℕ) → 1 ≤ s .gap i) → (a w more : ℕ) → stretch s a w ≡ sum (share s a w) (a + w + more)

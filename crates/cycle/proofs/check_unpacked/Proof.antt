@@ -3,7 +3,7 @@ use native.Mathlib.Omega.{arith}
 use mathlib.Core.Path.{sym, _∙_, ap}
 use borrow.Author.Needs.{needs}
 use Rattle.cycle.specs.Check.{checkNumber}
-use Rattle.cycle.proofs.FlatForms.{flat-none, flat-all}
+use Rattle.pairs.proofs.Unpacked.{flat-none, flat-all}
 use Rattle.cycle.proofs.check_unpacked.Statement.{statement}
 use Rattle.cycle.proofs.check_unpacked.Tie as tie
 

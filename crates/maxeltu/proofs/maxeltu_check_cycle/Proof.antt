@@ -38,7 +38,7 @@ use denote.Triple.Walked.{says, Stays, stay-none-slice, walkOf, goes-none-slice,
 use denote.Triple.Clauses.{ensured, lasts}
 use denote.Exit.{yes}
 use Rattle.spec.specs.File.{readSpec}
-use Rattle.pairs.specs.Pairs.{unpacked}
+use Rattle.pairs.specs.Pairs.{unpacked, flatPairs}
 use Rattle.pairs.specs.declared.Pair.{Pair}
 use Rattle.pairs.specs.declared.Flat.{Flat}
 use Rattle.pairs.proofs.Pair as P
@@ -48,7 +48,7 @@ use Rattle.pairs.proofs.unpack as unpack
 use Rattle.pairs.proofs.unpack.Symbol as unpack-def
 use Rattle.pairs.proofs.unpack.Symbol.{name as #pairs·unpack}
 use Rattle.pairs.proofs.unpack.Met as unpack-thm
-use Rattle.cycle.specs.Check.{flatPairs, checkFileNumber}
+use Rattle.cycle.specs.Check.{checkFileNumber}
 use Rattle.cycle.proofs.FlatForms.{same-file-number}
 use Rattle.cycle.proofs.check_unpacked_file as check
 use Rattle.cycle.proofs.check_unpacked_file.Symbol as check-def

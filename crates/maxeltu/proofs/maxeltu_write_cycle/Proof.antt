@@ -37,7 +37,7 @@ use denote.Triple.Table.{entered, cited}
 use denote.Triple.Walked.{says, Stays, stay-none-slice, gave-slice, gave-ref, walkOf, goes-none-slice, goes-gave-slice, goes-gave-ref, Walks, ends-at, walked, walk-meets}
 use denote.Triple.Clauses.{ensured, lasts}
 use denote.Exit.{yes}
-use Rattle.pairs.specs.Pairs.{unpacked}
+use Rattle.pairs.specs.Pairs.{unpacked, flatPairs}
 use Rattle.pairs.specs.declared.Pair.{Pair}
 use Rattle.pairs.specs.declared.Flat.{Flat}
 use Rattle.pairs.proofs.Pair as P
@@ -48,6 +48,7 @@ use Rattle.pairs.proofs.unpack.Symbol as unpack-def
 use Rattle.pairs.proofs.unpack.Symbol.{name as #pairs·unpack}
 use Rattle.pairs.proofs.unpack.Met as unpack-thm
 use Rattle.cyclefile.specs.File.{Writes}
+use Rattle.cyclefile.proofs.PairForms.{flat-writes-same}
 use Rattle.cyclefile.proofs.writing.write_unpacked as write
 use Rattle.cyclefile.proofs.writing.write_unpacked.Symbol as write-def
 use Rattle.cyclefile.proofs.writing.write_unpacked.Symbol.{name as #cyclefile·write-unpacked}
@@ -120,7 +121,7 @@ module _ {M : Type 1} (𝓤 : URA M) (H : Heap 𝓤) (A : Atoms 𝓤) (W : Given
 
   -- what `write_unpacked` ensures, at the last values of the bytes and of the length
   abbrev Wrote : Flat → ℕ → List ℕ → ℕ → Type 0
-  Wrote f r zs m = (qs : List Pair) → f ≡ unpacked qs → Writes qs ys n r zs m
+  Wrote f r zs m = Writes (flatPairs f) ys n r zs m
 
   exits : (r : ℕ) (v : Val) (zs : List ℕ) (m : ℕ) → Writes ps ys n r zs m → length zs ≡ length ys
       → ent 𝓤 (⋆ 𝓤 H A (‵ (u32 .own r (v ∷ [])) ∷ (‵ (flft κ₁ q₁) ⊛ ‵ (flft κ₂ q₂) ⊛ ‵ ftrue) ∷ ‵ (finally u8 γ₁ zs) ∷ ‵ (fres γ₂ (u32 .coded .code m)) ∷ (‵ (flft κ q) ⊛ ‵ ftrue) ∷ ‵ Sl ∷ [])) (Post v)
@@ -163,7 +164,7 @@ module _ {M : Type 1} (𝓤 : URA M) (H : Heap 𝓤) (A : Atoms 𝓤) (W : Given
         land ! (from ! (stop !)) (init ! 22 refl (uint-lawful 𝓤 H A W w32 .typed r _ is′ .0)) $
         returns ! (look ! 22 refl) $ forget ! 8 refl $ forget ! 10 refl $ forget ! 12 refl $ forget ! 14 refl $ forget ! 16 refl $ forget ! 18 refl $ forget ! 20 refl $ forget ! 22 refl $
         move ! (22 ∷ 23 ∷ []) $ free1 ! $ move ! (20 ∷ 21 ∷ []) $ free1 ! $ move ! (18 ∷ 19 ∷ []) $ free1 ! $ move ! (16 ∷ 17 ∷ []) $ free1 ! $ move ! (14 ∷ 15 ∷ []) $ free1 ! $ move ! (12 ∷ 13 ∷ []) $ free1 ! $ move ! (10 ∷ 11 ∷ []) $ free1 ! $ move ! (8 ∷ 9 ∷ []) $ free1 ! $ free0 ! $
-        keep ! (0 ∷ 1 ∷ 4 ∷ 2 ∷ 6 ∷ 7 ∷ []) $ by ! (exits r v′ (ls .1 .0) (ls .1 .1 .0) (said ps e) l)))))))))))))))))))
+        keep ! (0 ∷ 1 ∷ 4 ∷ 2 ∷ 6 ∷ 7 ∷ []) $ by ! (exits r v′ (ls .1 .0) (ls .1 .1 .0) (flat-writes-same ps ys n r (ls .1 .0) (ls .1 .1 .0) (rw e at said)) l)))))))))))))))))))
 
 module _ {M : Type 1} (𝓤 : URA M) (H : Heap 𝓤) (A : Atoms 𝓤) (W : Given 𝓤 H A) (mem : Memory → SProp 𝓤) (run : Routine → Fun 𝓤) (𝓣 : Tables 𝓤 H) (known-unpack : Triple 𝓤 (𝓣 .C #pairs·unpack) (Unpack 𝓤 H A mem run)) (known-write : Triple 𝓤 (𝓣 .C #cyclefile·write-unpacked) (Write 𝓤 H A mem run)) where
   walks : Walks 𝓤 H A self.ended stayed (WpFn 𝓤 H (𝓣 .C) (𝓣 .Λ) code.function) (self.clauses 𝓤 H A mem run)

@@ -1,10 +1,11 @@
--- `cyclefile::writing::write_unpacked` meets its contract: the words of a flat form of at most 512 pairs hold those pairs (`flat-pairs`), and
--- `write_words` writes them. Assumes nothing.
-use mathlib.Core.Path.{sym, _∙_}
+-- `cyclefile::writing::write_unpacked` meets its contract: where the count is wrong the flat form holds no pair, and no pairs get the same
+-- number; else its pairs are the first of its words (`all-counted`), and `write_words` writes them. Assumes nothing.
+use mathlib.Core.Path.{refl, sym, _∙_}
+use mathlib.Core.List.{[]}
 use native.Mathlib.Omega.{arith}
 use borrow.Author.Tests.{not-true, not-false}
 use Rattle.cyclefile.proofs.WholeFile.{countIn-true}
-use Rattle.cyclefile.proofs.PairForms.{not-counted, wrote-small, flat-pairs, wrote, wrote-nothing}
+use Rattle.cyclefile.proofs.PairForms.{none-counted, all-counted, not-counted, wrote-small, wrote, wrote-nothing}
 use borrow.Author.Needs.{needs}
 use Rattle.cyclefile.proofs.writing.write_unpacked.Statement.{statement}
 use Rattle.cyclefile.proofs.writing.write_unpacked.Tie as tie
@@ -13,7 +14,9 @@ count-in-requires : tie.Need-count-in-requires
 count-in-requires c κs = search needs
 
 returns : tie.Need-returns
-returns c = λ ps e. not-counted _ ps e (sym (c .before .count-in .ensures) ∙ not-true _ (c .if1 .taken)) _ _
+returns c =
+    let none = none-counted (c .before .before .before .args .f) (sym (c .before .count-in .ensures) ∙ not-true _ (c .if1 .taken)) in
+    rw none (not-counted [] refl _ _)
 
 write-words-requires : tie.Need-write-words-requires
 write-words-requires c κs = countIn-true (c .before .before .before .before .before .before .args .f .count) (sym (c .before .before .before .before .count-in .ensures) ∙ not-false _ (c .before .before .before .if1 .left)) .1
@@ -31,17 +34,17 @@ same-length : tie.Need-same-length
 same-length c = search needs
 
 returns-2 : tie.Need-returns-2
-returns-2 c = λ ps e.
-    let same = flat-pairs (c .before .before .before .before .before .before .before .before .before .before .before .before .args .f) ps e (sym (c .before .before .before .before .before .before .before .before .before .before .count-in .ensures) ∙ not-false _ (c .before .before .before .before .before .before .before .before .before .if1 .left)) in
-    wrote ps _ _ _ _ (rw same at (sym (c .before .length .given .1) ∙ c .before .before .before .before .before .write-words .ensures .0)) (rw same at (c .before .before .before .before .before .write-words .ensures .1))
+returns-2 c =
+    let same = all-counted (c .before .before .before .before .before .before .before .before .before .before .before .before .args .f) (sym (c .before .before .before .before .before .before .before .before .before .before .count-in .ensures) ∙ not-false _ (c .before .before .before .before .before .before .before .before .before .if1 .left)) in
+    wrote _ _ _ _ _ (rw same at (sym (c .before .length .given .1) ∙ c .before .before .before .before .before .write-words .ensures .0)) (rw same at (c .before .before .before .before .before .write-words .ensures .1))
 
 same-length-2 : tie.Need-same-length-2
 same-length-2 c = search needs
 
 returns-3 : tie.Need-returns-3
-returns-3 c = λ ps e.
-    let same = flat-pairs (c .before .before .before .before .before .before .before .before .before .before .before .before .args .f) ps e (sym (c .before .before .before .before .before .before .before .before .before .before .count-in .ensures) ∙ not-false _ (c .before .before .before .before .before .before .before .before .before .if1 .left)) in
-    wrote-nothing ps _ _ _ _ (rw same at (sym (c .before .number .given .1) ∙ c .before .before .before .before .before .write-words .ensures .0)) (rw same at (c .before .before .before .before .before .write-words .ensures .1))
+returns-3 c =
+    let same = all-counted (c .before .before .before .before .before .before .before .before .before .before .before .before .args .f) (sym (c .before .before .before .before .before .before .before .before .before .before .count-in .ensures) ∙ not-false _ (c .before .before .before .before .before .before .before .before .before .if1 .left)) in
+    wrote-nothing _ _ _ _ _ (rw same at (sym (c .before .number .given .1) ∙ c .before .before .before .before .before .write-words .ensures .0)) (rw same at (c .before .before .before .before .before .write-words .ensures .1))
 
 pub write-unpacked-spec : {M : Type 1} → statement M
 write-unpacked-spec =
