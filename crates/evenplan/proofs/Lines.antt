@@ -7,7 +7,10 @@ use mathlib.Core.List.{List, [], _∷_, _++_, append-assoc, append-nil}
 use lib.ListN.{length, take, getD, set, length-set, length-append}
 use lib.Seq.{length-take-le, take-suc, take-suc-set, take-all}
 use Rattle.evenplan.specs.declared.Line.{Line}
-use Rattle.evenplan.specs.Text.{Room, Grown, Holds}
+use Rattle.plan.specs.declared.Plan.{Plan}
+use Rattle.plan.specs.Reports.{reportOf}
+use Rattle.even.specs.declared.EvenPlan.the-variants.{Found}
+use Rattle.evenplan.specs.Text.{reportLine, lineOf, Room, Grown, Holds}
 
 pub grown-byte : (l : Line) (b : ℕ) → Room l 1 → Grown l (b ∷ []) (record { bytes = set (l .bytes) (l .len) b; len = l .len + 1 })
 grown-byte l b r = record {
@@ -44,3 +47,7 @@ grown-holds {l} {r} {t} z g h = record {
   room = record { whole = g .whole; left = omega arith };
   text = g .text ∙ rw z;
 }
+
+-- the line after the one of number i is that of report i
+pub line-next : (p : Plan) (i : ℕ) → lineOf (Found p) (i + 1) ≡ reportLine i (reportOf p i)
+line-next p i = rw (add-one i)

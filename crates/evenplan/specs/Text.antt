@@ -1,12 +1,18 @@
 -- Document 01, "Samples": what `evenplan` prints. "First line s, k, δ; then for each report of one period its number, minute, size. A
--- refusal prints only the line `refused 10`, with its own number (1 to 4 or 10) in that place." That these lines are written, one
--- for each report in order, is tested and not proved: no contract can say what a call of the system writes.
+-- refusal prints only the line `refused 10`, with its own number (1 to 4 or 10) in that place." Whatever is written is a line of the
+-- answer to what was read. That each of them is, in order, is tested and not proved: no contract can say what the system writes.
 use Prim.Native.Nat.{ℕ, zero, suc, _+_, _/_, _%_, _≤_}
 use mathlib.Core.Path.{_≡_}
 use mathlib.Core.Bool.{true, false}
 use mathlib.Core.List.{List, [], _∷_, _++_}
 use lib.Dec.{ltb}
 use lib.ListN.{length, take}
+use Rattle.plan.specs.declared.Plan.{Plan}
+use Rattle.plan.specs.declared.Reported.{Reported}
+use Rattle.plan.specs.declared.Reported.the-variants.{At, Refused as NotReported}
+use Rattle.plan.specs.Reports.{reportOf}
+use Rattle.even.specs.declared.EvenPlan.{EvenPlan}
+use Rattle.even.specs.declared.EvenPlan.the-variants.{Found, Refused}
 use Rattle.evenplan.specs.declared.Line.{Line}
 
 -- the byte of a digit
@@ -23,8 +29,8 @@ abbrev pub decimal : ℕ → List ℕ
 decimal n = decimalIn 20 n
 
 -- "gap 5 cycle 4 total 10"
-abbrev pub planLine : ℕ → ℕ → ℕ → List ℕ
-planLine gap count total =
+abbrev pub planText : ℕ → ℕ → ℕ → List ℕ
+planText gap count total =
     (103 ∷ 97 ∷ 112 ∷ 32 ∷ [])
     ++ decimal gap
     ++ (32 ∷ 99 ∷ 121 ∷ 99 ∷ 108 ∷ 101 ∷ 32 ∷ [])
@@ -33,13 +39,28 @@ planLine gap count total =
     ++ decimal total
     ++ (10 ∷ [])
 
--- "3 15 3"
-abbrev pub reportLine : ℕ → ℕ → ℕ → List ℕ
-reportLine i minute size = decimal i ++ (32 ∷ []) ++ decimal minute ++ (32 ∷ []) ++ decimal size ++ (10 ∷ [])
+-- "First line s, k, δ"
+abbrev pub planLine : Plan → List ℕ
+planLine p = planText (p .period / p .count) (p .count) (p .total)
 
--- "refused 10"
+-- "refused 10, with its own number (1 to 4 or 10) in that place"
 abbrev pub refusalLine : ℕ → List ℕ
 refusalLine n = (114 ∷ 101 ∷ 102 ∷ 117 ∷ 115 ∷ 101 ∷ 100 ∷ 32 ∷ []) ++ decimal n ++ (10 ∷ [])
+
+-- "3 15 3"
+abbrev pub reportText : ℕ → ℕ → ℕ → List ℕ
+reportText i minute size = decimal i ++ (32 ∷ []) ++ decimal minute ++ (32 ∷ []) ++ decimal size ++ (10 ∷ [])
+
+-- "its number, minute, size". (The plans that are printed are proper, and no report of theirs is refused.)
+abbrev pub reportLine : ℕ → Reported → List ℕ
+reportLine i (At minute size) = reportText i minute size
+reportLine i (NotReported n) = refusalLine n
+
+-- line i of an answer, counted from 0: the first, and line i + 1 is that of report i
+abbrev pub lineOf : EvenPlan → ℕ → List ℕ
+lineOf (Found p) zero = planLine p
+lineOf (Found p) (suc i) = reportLine i (reportOf p i)
+lineOf (Refused n) i = refusalLine n
 
 -- the text of a line, in the first of its 80 places
 abbrev pub textOf : Line → List ℕ

@@ -10,8 +10,10 @@ ghost use Prim.Native.Nat.{ℕ, _+_, _≤_};
 ghost use mathlib.Core.Path.{_≡_};
 ghost use mathlib.Core.List.{List, [], _∷_};
 ghost use lib.ListN.{length, take};
+ghost use Rattle.plan.specs.Reports.{reportOf};
+ghost use Rattle.even.specs.declared.EvenPlan.the-variants.{Found};
 ghost use Rattle.even.specs.Even.{evenOf};
-ghost use Rattle.evenplan.specs.Text.{decimal, planLine, reportLine, refusalLine, Room, Grown, Holds};
+ghost use Rattle.evenplan.specs.Text.{decimal, planText, reportText, refusalLine, planLine, reportLine, lineOf, Room, Grown, Holds};
 
 // A line of text as it grows. No line has more than 80 bytes, though each of its numbers had 20 digits.
 struct Line {
@@ -60,18 +62,10 @@ impl Line {
         let k = io::decimal(n, &mut digits);
         self.text(&digits[..k])
     }
-
-    fn print(self) -> bool
-        requires { ⌜ Room self 0 ⌝ }
-    {
-        let n = self.len;
-        let bytes = self.bytes;
-        io::write_all(STDOUT_FILENO, &bytes[..n])
-    }
 }
 
-fn plan_line(gap: u32, count: u32, total: u32) -> Line
-    ensures { λ r. ⌜ Holds r (planLine gap count total) ⌝ }
+fn plan_text(gap: u32, count: u32, total: u32) -> Line
+    ensures { λ r. ⌜ Holds r (planText gap count total) ⌝ }
 {
     Line::new()
         .text(b"gap ")
@@ -83,8 +77,8 @@ fn plan_line(gap: u32, count: u32, total: u32) -> Line
         .byte(b'\n')
 }
 
-fn report_line(i: u32, minute: u64, size: u32) -> Line
-    ensures { λ r. ⌜ Holds r (reportLine i minute size) ⌝ }
+fn report_text(i: u32, minute: u64, size: u32) -> Line
+    ensures { λ r. ⌜ Holds r (reportText i minute size) ⌝ }
 {
     Line::new()
         .number(i as u64)
@@ -101,23 +95,43 @@ fn refusal_line(n: u32) -> Line
     Line::new().text(b"refused ").number(n as u64).byte(b'\n')
 }
 
-// The line of report i; answers whether it was written.
-fn print_report(p: Plan, i: u32) -> bool {
+// The first line of a plan.
+fn plan_line(p: Plan) -> Line
+    requires { ⌜ 1 ≤ p .count ⌝ }
+    ensures { λ r. ⌜ Holds r (planLine p) ⌝ }
+{
+    plan_text(p.period / p.count, p.count, p.total)
+}
+
+// The line of report i.
+fn report_line(p: Plan, i: u32) -> Line
+    ensures { λ r. ⌜ Holds r (reportLine i (reportOf p i)) ⌝ }
+{
     let found = plan::report(p, i);
-    let Reported::At { minute, size } = found else {
-        return false;
-    };
-    report_line(i, minute, size).print()
+    match found {
+        Reported::At { minute, size } => report_text(i, minute, size),
+        Reported::Refused(n) => refusal_line(n),
+    }
+}
+
+// Writes line i of the answer to the file that begins with `front`, and answers whether it was written. All that the program writes
+// goes through here, so that no other text can.
+fn write_line(front: &[u8], i: u32, line: Line) -> bool
+    requires { ⌜ Holds line (lineOf (evenOf (now front)) i) ⌝ }
+{
+    let n = line.len;
+    let bytes = line.bytes;
+    io::write_all(STDOUT_FILENO, &bytes[..n])
 }
 
 // The plan's line, then those of the reports of one period, as long as they can be written.
-fn print_plan(p: Plan)
-    requires { ⌜ 1 ≤ p .count ⌝ }
+fn write_plan(front: &[u8], p: Plan)
+    requires { ⌜ evenOf (now front) ≡ Found p ⌝ }
 {
     let k = p.count;
     let mut i = 0;
-    if plan_line(p.period / k, k, p.total).print() {
-        while i < k && print_report(p, i) {
+    if write_line(front, 0, plan_line(p)) {
+        while i < k && write_line(front, i + 1, report_line(p, i)) {
             i += 1;
         }
     }
@@ -152,9 +166,9 @@ fn main() {
     let answer = answer_to(&front[..n]);
     skip_rest();
     match answer {
-        EvenPlan::Found(p) => print_plan(p),
+        EvenPlan::Found(p) => write_plan(&front[..n], p),
         EvenPlan::Refused(number) => {
-            refusal_line(number).print();
+            write_line(&front[..n], 0, refusal_line(number));
         }
     }
 }

@@ -1,7 +1,5 @@
--- The plan that is printed is proper (even/proofs/EvenPlans.antt), so its period has a report.
+-- What is written is of the answer to what was read: the plan that it holds, or its number.
 use mathlib.Core.Path.{sym, _∙_}
-use Rattle.plan.proofs.Proper.{proper-bounds}
-use Rattle.even.proofs.EvenPlans.{even-of-proper}
 use borrow.Author.Needs.{needs}
 use Rattle.evenplan.proofs.main.Statement.{statement}
 use Rattle.evenplan.proofs.main.Tie as tie
@@ -27,18 +25,29 @@ skip-rest-requires c κs = search needs
 enum-known-answer : tie.Need-enum-known-answer
 enum-known-answer c = search needs
 
-print-plan-requires : tie.Need-print-plan-requires
-print-plan-requires c κs =
-    proper-bounds _ (even-of-proper _ _ (sym (c .before .before .before .before .answer-to .ensures .0) ∙ c .before .answer .given .1)) .some
+array-share-prefix-front-2 : tie.Need-array-share-prefix-front-2
+array-share-prefix-front-2 c = search needs
+
+slice-aggregate-write-plan : tie.Need-slice-aggregate-write-plan
+slice-aggregate-write-plan c = search needs
+
+write-plan-requires : tie.Need-write-plan-requires
+write-plan-requires c κs = sym (c .before .before .before .before .before .answer-to .ensures .0) ∙ c .before .before .answer .given .1
 
 enum-known-answer-2 : tie.Need-enum-known-answer-2
 enum-known-answer-2 c = search needs
 
+array-share-prefix-front-3 : tie.Need-array-share-prefix-front-3
+array-share-prefix-front-3 c = search needs
+
+slice-aggregate-write-line : tie.Need-slice-aggregate-write-line
+slice-aggregate-write-line c = search needs
+
 refusal-line-requires : tie.Need-refusal-line-requires
 refusal-line-requires c κs = search needs
 
-print-requires : tie.Need-print-requires
-print-requires c κs = search needs
+write-line-requires : tie.Need-write-line-requires
+write-line-requires c κs = rw (← c .before .before .before .before .before .before .answer-to .ensures .0, c .before .before .before .answer2 .given .1) (c .refusal-line .ensures)
 
 returns : tie.Need-returns
 returns c = search needs
@@ -57,9 +66,13 @@ main-spec =
     answer-to-requires
     skip-rest-requires
     enum-known-answer
-    print-plan-requires
+    array-share-prefix-front-2
+    slice-aggregate-write-plan
+    write-plan-requires
     enum-known-answer-2
+    array-share-prefix-front-3
+    slice-aggregate-write-line
     refusal-line-requires
-    print-requires
+    write-line-requires
     returns
     returns-2)

@@ -1,50 +1,37 @@
--- Each call's text comes after what was there, and the line began empty.
-use native.Mathlib.Omega.{arith}
-use Rattle.evenplan.proofs.Lines.{grown-more, grown-holds}
+-- By cases on what the plan's report is.
 use borrow.Author.Needs.{needs}
 use Rattle.evenplan.proofs.report_line.Statement.{statement}
 use Rattle.evenplan.proofs.report_line.Tie as tie
 
-new-requires : tie.Need-new-requires
-new-requires c κs = search needs
+report-requires : tie.Need-report-requires
+report-requires c κs = search needs
 
-number-requires : tie.Need-number-requires
-number-requires c κs = search needs
+enum-known-found : tie.Need-enum-known-found
+enum-known-found c = search needs
 
-byte-requires : tie.Need-byte-requires
-byte-requires c κs = search needs
+report-text-requires : tie.Need-report-text-requires
+report-text-requires c κs = search needs
 
-number-requires-2 : tie.Need-number-requires-2
-number-requires-2 c κs = search needs
+enum-known-found-2 : tie.Need-enum-known-found-2
+enum-known-found-2 c = search needs
 
-byte-requires-2 : tie.Need-byte-requires-2
-byte-requires-2 c κs = search needs
-
-number-requires-3 : tie.Need-number-requires-3
-number-requires-3 c κs = search needs
-
-byte-requires-3 : tie.Need-byte-requires-3
-byte-requires-3 c κs = search needs
+refusal-line-requires : tie.Need-refusal-line-requires
+refusal-line-requires c κs = search needs
 
 returns : tie.Need-returns
-returns c =
-    let t₁ = c .before .before .before .before .before .number .ensures .0 in
-    let t₂ = grown-more t₁ (c .before .before .before .before .byte .ensures) in
-    let t₃ = grown-more t₂ (c .before .before .before .number2 .ensures .0) in
-    let t₄ = grown-more t₃ (c .before .before .byte2 .ensures) in
-    let t₅ = grown-more t₄ (c .before .number3 .ensures .0) in
-    let t₆ = grown-more t₅ (c .byte3 .ensures) in
-    grown-holds (c .before .before .before .before .before .before .new .ensures .0) t₆ (omega arith)
+returns c = rw (← c .before .before .before .before .report .ensures, c .before .before .found .given .1) (c .report-text .ensures)
+
+returns-2 : tie.Need-returns-2
+returns-2 c = rw (← c .before .before .before .before .report .ensures, c .before .before .found2 .given .1) (c .refusal-line .ensures)
 
 pub report-line-spec : {M : Type 1} → statement M
 report-line-spec =
     tie.close
     (tie.spec
-    new-requires
-    number-requires
-    byte-requires
-    number-requires-2
-    byte-requires-2
-    number-requires-3
-    byte-requires-3
-    returns)
+    report-requires
+    enum-known-found
+    report-text-requires
+    enum-known-found-2
+    refusal-line-requires
+    returns
+    returns-2)

@@ -3,8 +3,8 @@ use native.Mathlib.Omega.{arith}
 use mathlib.Core.Path.{sym}
 use lib.Seq.{length-take-le}
 use borrow.Author.Needs.{needs}
-use Rattle.evenplan.proofs.Line.print.Statement.{statement}
-use Rattle.evenplan.proofs.Line.print.Tie as tie
+use Rattle.evenplan.proofs.write_line.Statement.{statement}
+use Rattle.evenplan.proofs.write_line.Tie as tie
 
 array-share-prefix-bytes : tie.Need-array-share-prefix-bytes
 array-share-prefix-bytes c = search needs
@@ -18,7 +18,7 @@ write-all-requires c κs = search needs
 returns : tie.Need-returns
 returns c = search needs
 
-pub print-spec : {M : Type 1} → statement M
-print-spec =
+pub write-line-spec : {M : Type 1} → statement M
+write-line-spec =
     tie.close
     (tie.spec array-share-prefix-bytes slice-aggregate-write-all write-all-requires returns)

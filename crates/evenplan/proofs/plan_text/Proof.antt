@@ -2,8 +2,8 @@
 use native.Mathlib.Omega.{arith}
 use Rattle.evenplan.proofs.Lines.{grown-more, grown-holds}
 use borrow.Author.Needs.{needs}
-use Rattle.evenplan.proofs.plan_line.Statement.{statement}
-use Rattle.evenplan.proofs.plan_line.Tie as tie
+use Rattle.evenplan.proofs.plan_text.Statement.{statement}
+use Rattle.evenplan.proofs.plan_text.Tie as tie
 
 new-requires : tie.Need-new-requires
 new-requires c κs = search needs
@@ -49,8 +49,8 @@ returns c =
     let t₇ = grown-more t₆ (c .byte .ensures) in
     grown-holds (c .before .before .before .before .before .before .before .before .before .before .new .ensures .0) t₇ (omega (arith, byte-requires (c .before) (c .byte .lifetimes) .left, c .byte .ensures .len))
 
-pub plan-line-spec : {M : Type 1} → statement M
-plan-line-spec =
+pub plan-text-spec : {M : Type 1} → statement M
+plan-text-spec =
     tie.close
     (tie.spec
     new-requires
