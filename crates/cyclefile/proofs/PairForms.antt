@@ -84,19 +84,20 @@ wrote-by : (room : ℕ) (ps : List Pair) (n : ℕ) (t : Bool) → eqb (writeNumb
 wrote-by room ps n true e h = (refl, cc)
 wrote-by room ps n false e h = absurd (let z : _≡_ {A = ℕ} 0 1 = cc in omega arith)
 
-pub wrote : (ps : List Pair) (file file′ : List ℕ) (old n : ℕ) → Bytes n ≡ written (length file) ps → file′ ≡ bytesAfter ps file → Writes ps file old 0 file′ n
-wrote ps file file′ old n h k =
+-- what the writer of the pairs ps says, where they are those that qs are
+pub wrote : {ps qs : List Pair} (file file′ : List ℕ) (old n : ℕ) → ps ≡ qs → Bytes n ≡ written (length file) ps → file′ ≡ bytesAfter ps file → Writes qs file old 0 file′ n
+wrote {ps} file file′ old n same h k =
     let w = wrote-by (length file) ps n (eqb (writeNumber (length file) ps) 0) refl h in
-    record { answer-is = sym (eqb-true (writeNumber (length file) ps) 0 (w .0)); bytes-are = k; written-is = rw (w .0) (w .1) }
+    rw (← same) (record { answer-is = sym (eqb-true (writeNumber (length file) ps) 0 (w .0)); bytes-are = k; written-is = rw (w .0) (w .1) })
 
 refused-by : (room : ℕ) (ps : List Pair) (n : ℕ) (t : Bool) → eqb (writeNumber room ps) 0 ≡ t → NotWritten n ≡ cond t (Bytes (length (cycleBytes ps))) (NotWritten (writeNumber room ps)) → (t ≡ false) × (n ≡ writeNumber room ps)
 refused-by room ps n true e h = absurd (let z : _≡_ {A = ℕ} 0 1 = cc in omega arith)
 refused-by room ps n false e h = (refl, cc)
 
-pub wrote-nothing : (ps : List Pair) (file file′ : List ℕ) (old n : ℕ) → NotWritten n ≡ written (length file) ps → file′ ≡ bytesAfter ps file → Writes ps file old n file′ old
-wrote-nothing ps file file′ old n h k =
+pub wrote-nothing : {ps qs : List Pair} (file file′ : List ℕ) (old n : ℕ) → ps ≡ qs → NotWritten n ≡ written (length file) ps → file′ ≡ bytesAfter ps file → Writes qs file old n file′ old
+wrote-nothing {ps} file file′ old n same h k =
     let w = refused-by (length file) ps n (eqb (writeNumber (length file) ps) 0) refl h in
-    record { answer-is = w .1; bytes-are = k; written-is = rw (w .0) }
+    rw (← same) (record { answer-is = w .1; bytes-are = k; written-is = rw (w .0) })
 
 -- more than 512 pairs are refused as none are
 pub flat-writes-same : FlatWritesSame

@@ -19,7 +19,7 @@ returns c =
     rw none (not-counted [] refl _ _)
 
 write-words-requires : tie.Need-write-words-requires
-write-words-requires c κs = countIn-true (c .before .before .before .before .before .before .args .f .count) (sym (c .before .before .before .before .count-in .ensures) ∙ not-false _ (c .before .before .before .if1 .left)) .1
+write-words-requires c κs = omega (arith, countIn-true (c .before .before .before .before .before .before .args .f .count) (sym (c .before .before .before .before .count-in .ensures) ∙ not-false _ (c .before .before .before .if1 .left)) .1)
 
 enum-known-length : tie.Need-enum-known-length
 enum-known-length c = search needs
@@ -36,7 +36,7 @@ same-length c = search needs
 returns-2 : tie.Need-returns-2
 returns-2 c =
     let same = all-counted (c .before .before .before .before .before .before .before .before .before .before .before .before .args .f) (sym (c .before .before .before .before .before .before .before .before .before .before .count-in .ensures) ∙ not-false _ (c .before .before .before .before .before .before .before .before .before .if1 .left)) in
-    wrote _ _ _ _ _ (rw same at (sym (c .before .length .given .1) ∙ c .before .before .before .before .before .write-words .ensures .0)) (rw same at (c .before .before .before .before .before .write-words .ensures .1))
+    wrote _ _ _ _ same (sym (c .before .length .given .1) ∙ c .before .before .before .before .before .write-words .ensures .0) (c .before .before .before .before .before .write-words .ensures .1)
 
 same-length-2 : tie.Need-same-length-2
 same-length-2 c = search needs
@@ -44,7 +44,7 @@ same-length-2 c = search needs
 returns-3 : tie.Need-returns-3
 returns-3 c =
     let same = all-counted (c .before .before .before .before .before .before .before .before .before .before .before .before .args .f) (sym (c .before .before .before .before .before .before .before .before .before .before .count-in .ensures) ∙ not-false _ (c .before .before .before .before .before .before .before .before .before .if1 .left)) in
-    wrote-nothing _ _ _ _ _ (rw same at (sym (c .before .number .given .1) ∙ c .before .before .before .before .before .write-words .ensures .0)) (rw same at (c .before .before .before .before .before .write-words .ensures .1))
+    wrote-nothing _ _ _ _ same (sym (c .before .number .given .1) ∙ c .before .before .before .before .before .write-words .ensures .0) (c .before .before .before .before .before .write-words .ensures .1)
 
 pub write-unpacked-spec : {M : Type 1} → statement M
 write-unpacked-spec =
