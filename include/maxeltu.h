@@ -17,7 +17,14 @@
  *    answer is 0, and `condition` only where it is MAXELTU_INCONSISTENT. In
  *    every other case the place behind it keeps what it held.
  *  - No pointer may be null. For an empty list or empty bytes (length 0) pass
- *    any pointer that is not null; nothing is read or written behind it.
+ *    any pointer that is not null; nothing is read or written behind it. (A null
+ *    pointer with length 0 is taken for an empty list or empty bytes by this
+ *    build, and the tests try it; but the toolchain's rules for callers do not
+ *    promise it, so do not rely on it.)
+ *  - The length of a list or of bytes that is handed in is a size_t, as C counts
+ *    them, and any length may be handed in. Every number that is handed out is
+ *    a uint32_t (a minute a uint64_t), counts and lengths too: none of those is
+ *    above MAXELTU_MAX_CYCLE_FILE, and callers have one type for all of them.
  *  - The places behind two pointers of one call must not overlap, unless the
  *    call only reads both of them.
  *  - No call keeps a pointer, allocates, prints, or holds state between calls:
@@ -112,8 +119,9 @@ struct maxeltu_pair {
  * cycle against the specification, over its endless repetition.
  *
  * Answers 0 where the cycle obeys the specification; 1 to 4 for the
- * specification; then 12, 17, 18, 19 for the cycle file, as maxeltu_read_cycle
- * does; then 13 to 16, as maxeltu_check_cycle does.
+ * specification; then for the cycle file, as maxeltu_read_cycle does with 512
+ * places: 18 where it has under 2 bytes, 12, then pair by pair 18, 17, 18, 19,
+ * last 18 where bytes are left over; then 13 to 16, as maxeltu_check_cycle does.
  * Writes nothing.
  */
 uint32_t maxeltu_verdict(const uint8_t *spec, size_t spec_len,
@@ -212,7 +220,7 @@ uint32_t maxeltu_report(uint32_t kind, uint32_t k, uint32_t period,
  * Answers 0 where it obeys; 1 to 4; 12 where count is 0 or above 512; 13 where
  * some gap is out of range; 14 where some size is; 15 where some stretch of R
  * minutes is too full; 16 where some stretch of P minutes is too thin.
- * Reads `count` pairs. Writes nothing.
+ * Reads `count` pairs; of more than 512, none. Writes nothing.
  */
 uint32_t maxeltu_check_cycle(const uint8_t *spec, size_t spec_len,
                              const struct maxeltu_pair *pairs, size_t count);
@@ -237,6 +245,7 @@ uint32_t maxeltu_read_cycle(const uint8_t *file, size_t file_len,
  *
  * Answers 0; 12 where count is 0 or above 512; 20 where room is less than the
  * file's length (MAXELTU_MAX_CYCLE_FILE bytes are always enough).
+ * Reads `count` pairs; of more than 512, none.
  * Writes the file to the first *written bytes, and *written. Bytes past the
  * file keep their contents; so do all bytes where the answer is not 0.
  */

@@ -177,6 +177,7 @@ fn sample_g() {
     let file = [15u8, 0, 2, 0, 3, 0, 5, 0, 5, 0, 15, 0, 26, 0, 10, 0, 20];
     let read = spec::read_spec(&file);
     let SpecRead::Accepted(s) = read else {
+        refused(spec::read_number(read));
         return;
     };
     test(s);
