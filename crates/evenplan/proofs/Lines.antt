@@ -4,11 +4,13 @@ use native.Mathlib.Omega.{arith}
 use native.Mathlib.Numerals.{add-one}
 use mathlib.Core.Path.{_≡_, refl, sym, _∙_}
 use mathlib.Core.List.{List, [], _∷_, _++_, append-assoc, append-nil}
+use borrow.Author.Tests.{lt-ltb}
 use lib.ListN.{length, take, getD, set, length-set, length-append}
 use lib.Seq.{length-take-le, take-suc, take-suc-set, take-all}
 use Rattle.evenplan.specs.declared.Line.{Line}
 use Rattle.plan.specs.declared.Plan.{Plan}
 use Rattle.plan.specs.Reports.{reportOf}
+use Rattle.even.specs.declared.EvenPlan.{EvenPlan}
 use Rattle.even.specs.declared.EvenPlan.the-variants.{Found}
 use Rattle.evenplan.specs.Text.{reportLine, lineOf, Room, Grown, Holds}
 
@@ -48,6 +50,6 @@ grown-holds {l} {r} {t} z g h = record {
   text = g .text ∙ rw z;
 }
 
--- the line after the one of number i is that of report i
-pub line-next : (p : Plan) (i : ℕ) → lineOf (Found p) (i + 1) ≡ reportLine i (reportOf p i)
-line-next p i = rw (add-one i)
+-- the line of a report of the period is one of the answer
+pub line-next : {answer : EvenPlan} {l : Line} (p : Plan) (i : ℕ) → answer ≡ Found p → i < p .count → Holds l (reportLine i (reportOf p i)) → Holds l (lineOf answer (i + 1))
+line-next p i e h t = rw (e, add-one i, lt-ltb i (p .count) h) t

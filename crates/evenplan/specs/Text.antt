@@ -3,7 +3,7 @@
 -- answer to what was read. That each of them is, in order, is tested and not proved: no contract can say what the system writes.
 use Prim.Native.Nat.{ℕ, zero, suc, _+_, _/_, _%_, _≤_}
 use mathlib.Core.Path.{_≡_}
-use mathlib.Core.Bool.{true, false}
+use mathlib.Core.Bool.{true, false, cond}
 use mathlib.Core.List.{List, [], _∷_, _++_}
 use lib.Dec.{ltb}
 use lib.ListN.{length, take}
@@ -56,11 +56,13 @@ abbrev pub reportLine : ℕ → Reported → List ℕ
 reportLine i (At minute size) = reportText i minute size
 reportLine i (NotReported n) = refusalLine n
 
--- line i of an answer, counted from 0: the first, and line i + 1 is that of report i
+-- Line i of an answer, counted from 0: the first, and of a plan line i + 1 is that of report i, "for each report of one period". "A refusal
+-- prints only the line".
 abbrev pub lineOf : EvenPlan → ℕ → List ℕ
 lineOf (Found p) zero = planLine p
-lineOf (Found p) (suc i) = reportLine i (reportOf p i)
-lineOf (Refused n) i = refusalLine n
+lineOf (Found p) (suc i) = cond (ltb i (p .count)) (reportLine i (reportOf p i)) []
+lineOf (Refused n) zero = refusalLine n
+lineOf (Refused n) (suc i) = []
 
 -- the text of a line, in the first of its 80 places
 abbrev pub textOf : Line → List ℕ

@@ -30,7 +30,7 @@ report-line-requires : tie.Need-report-line-requires Inv-loop μ-loop
 report-line-requires c κs = tt
 
 write-line-requires-2 : tie.Need-write-line-requires-2 Inv-loop μ-loop
-write-line-requires-2 c κs = rw (c .before .before .before .before .before .before .before .pre, line-next) (c .report-line .ensures)
+write-line-requires-2 c κs = line-next _ _ (c .before .before .before .before .before .before .before .pre) (c .before .loop-test .taken) (c .report-line .ensures)
 
 add-i : tie.Need-add-i Inv-loop μ-loop
 add-i c = omega arith
