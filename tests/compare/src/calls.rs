@@ -1,7 +1,7 @@
 //! Each call of the interface against the reference, on random inputs.
 
 use crate::generate::{self, Scale, FULL, MID, SMALL, TINY};
-use crate::group::{same, Runner, Verdict};
+use crate::group::{same, Runner, Verdict, RUNS};
 use crate::library::{Library, Outcome};
 use crate::random::Random;
 use reference::feasibility::{self, Failure};
@@ -9,20 +9,19 @@ use reference::schedule::{obeys, LAID_OUT};
 use reference::{cycle, even, file, plan, spec, verdict, Kind, Pair, Plan, Refusal, Spec};
 
 pub fn all(runner: &mut Runner) {
-    let cases = runner.cases;
-    runner.random("verdict", cases, &[0, 1, 2, 3, 4, 12, 13, 14, 15, 16, 17, 18, 19], verdict_case);
-    runner.random("consistency", cases, &[0, 1, 2, 3, 4, 7], consistency_case);
-    runner.random("minimum demand", cases, &[0, 1, 2, 3, 4, 5, 6], min_demand_case);
-    runner.random("maximum supply", cases, &[0, 1, 2, 3, 4, 5, 6], max_supply_case);
-    runner.random("test", cases, &[0, 1, 2, 3, 4, 5, 7, 8, 9], test_case);
-    runner.random("test at the limits", (cases / 16_000).max(1), &[], test_at_the_limits_case);
-    runner.random("even plan, every gap counted", cases, &[0, 1, 2, 3, 4, 10], even_case);
-    runner.random("even plan, size lists searched", cases / 4, &[0, 10], even_search_case);
-    runner.random("report", cases, &[0, 11], report_case);
-    runner.random("check cycle", cases, &[0, 1, 2, 3, 4, 12, 13, 14, 15, 16], check_case);
-    runner.random("read cycle", cases, &[0, 12, 17, 18, 19, 20], read_case);
-    runner.random("write cycle", cases, &[0, 12, 20], write_case);
-    runner.random("plans obey the rules", cases / 2, &[0, 1], obeying_case);
+    runner.random("verdict", RUNS, &[0, 1, 2, 3, 4, 12, 13, 14, 15, 16, 17, 18, 19], verdict_case);
+    runner.random("consistency", RUNS, &[0, 1, 2, 3, 4, 73, 74, 75, 76], consistency_case);
+    runner.random("minimum demand", RUNS, &[0, 1, 2, 3, 4, 5, 6], min_demand_case);
+    runner.random("maximum supply", RUNS, &[0, 1, 2, 3, 4, 5, 6], max_supply_case);
+    runner.random("test", RUNS, &[0, 1, 2, 3, 4, 5, 73, 74, 75, 76, 8, 9], test_case);
+    runner.random("test at the limits", RUNS / 8_000, &[0, 8, 9], test_at_the_limits_case);
+    runner.random("even plan, every gap counted", RUNS, &[0, 1, 2, 3, 4, 10], even_case);
+    runner.random("even plan, size lists searched", RUNS / 4, &[0, 10], even_search_case);
+    runner.random("report", RUNS, &[0, 11], report_case);
+    runner.random("check cycle", RUNS, &[0, 1, 2, 3, 4, 12, 13, 14, 15, 16], check_case);
+    runner.random("read cycle", RUNS, &[0, 12, 17, 18, 19, 20], read_case);
+    runner.random("write cycle", RUNS, &[0, 12, 20], write_case);
+    runner.random("plans obey the rules", RUNS / 2, &[0, 1, 2], obeying_case);
 }
 
 fn hex(bytes: &[u8]) -> String {
@@ -61,7 +60,16 @@ fn consistency_case(random: &mut Random, library: &mut Library) -> Verdict {
         Ok(None) => Outcome { answer: 0, places: before },
         Ok(Some(condition)) => Outcome { answer: 7, places: [condition] },
     };
-    same(wanted.answer, library.consistency(&file, before), wanted, || hex(&file))
+    same(with_condition(wanted), library.consistency(&file, before), wanted, || hex(&file))
+}
+
+/// The answer, 7 being told apart by its condition: 73 to 76.
+pub fn with_condition<const N: usize>(outcome: Outcome<N>) -> u32 {
+    if outcome.answer == 7 {
+        70 + outcome.places[0]
+    } else {
+        outcome.answer
+    }
 }
 
 /// A number of reports near the ends of what has a schedule, or any 32-bit number. `wraps` is a factor whose product with k
@@ -161,8 +169,23 @@ fn test_case(random: &mut Random, library: &mut Library) -> Verdict {
     test_of(&file, random, library)
 }
 
-/// Rates, ranges and numbers of reports all near their limits. The reference looks at up to 200 million reports here.
+/// The reference looks at up to a billion reports here, so the cases are few. In turn they are taken as drawn, or drawn until
+/// the library gives a certain answer; the reference judges all of them.
 fn test_at_the_limits_case(random: &mut Random, library: &mut Library) -> Verdict {
+    let turn = [Some(0), None, Some(9), None, Some(8)][random.case as usize % 5];
+    for _ in 0..1_000 {
+        let spec = spec_at_the_limits(random);
+        let file = spec::write(&spec);
+        let fits = turn.map_or(true, |answer| library.test(&file, [0; 5]).answer == answer);
+        if fits && steps_of_test(&spec) <= 1_000_000_000 {
+            return test_of(&file, random, library);
+        }
+    }
+    Err(format!("the library never gave {turn:?}"))
+}
+
+/// Rates, ranges and numbers of reports all near their limits.
+fn spec_at_the_limits(random: &mut Random) -> Spec {
     let longest = |random: &mut Random| random.pick(&[20_160, 20_159, 20_000, 10_081, 10_080]);
     let smallest = random.pick(&[1, 1, 2]);
     let shortest = random.pick(&[1, 1, 2, 3]);
@@ -180,7 +203,7 @@ fn test_at_the_limits_case(random: &mut Random, library: &mut Library) -> Verdic
         spec.supply = spec.supply.map(|(b, r)| (b, r / 2));
     }
     make_consistent(random, &mut spec, FULL);
-    test_of(&spec::write(&spec), random, library)
+    spec
 }
 
 fn test_of(file: &[u8], random: &mut Random, library: &mut Library) -> Verdict {
@@ -194,7 +217,7 @@ fn test_of(file: &[u8], random: &mut Random, library: &mut Library) -> Verdict {
             Outcome { answer: 0, places: [before[0], plan.k as u32, plan.period as u32, plan.total as u32, supply as u32] }
         }
     };
-    same(wanted.answer, library.test(file, before), wanted, || hex(file))
+    same(with_condition(wanted), library.test(file, before), wanted, || hex(file))
 }
 
 fn even_outcome(spec: Result<Spec, Refusal>, works: impl Fn(&Spec, u64) -> bool, before: [u32; 3]) -> Outcome<3> {
@@ -413,7 +436,7 @@ fn obeying_case(random: &mut Random, library: &mut Library) -> Verdict {
 
 /// Tests of the reference itself: its literal way and its way for large numbers say the same.
 pub fn reference_itself(runner: &mut Runner) {
-    runner.random("reference: by minute and by report", runner.cases / 10, &[], |random, _| {
+    runner.random("reference: by minute and by report", RUNS / 10, &[0, 1], |random, _| {
         let scale = random.pick(&[TINY, SMALL, MID]);
         let spec = generate::near_spec(random, scale);
         let count = random.between(1, 20) as usize;
@@ -421,17 +444,22 @@ pub fn reference_itself(runner: &mut Runner) {
         let window = random.between(1, scale.window);
         let run = cycle::Cycle(&pairs);
         let by_minute = reference::schedule::least_and_most_by_minute(&run, window);
-        same(0, reference::schedule::least_and_most_by_report(&run, window), by_minute, || format!("{pairs:?} {window}"))
+        // 1 where some stretch holds more than another: where none does, the two ways can hardly differ.
+        let apart = u32::from(by_minute.0 < by_minute.1);
+        same(apart, reference::schedule::least_and_most_by_report(&run, window), by_minute, || format!("{pairs:?} {window}"))
     });
-    runner.random("reference: whole check by minute, long rounds", 40, &[], |random, _| {
+    runner.random("reference: whole check by minute, long rounds", RUNS / 2_000, &[0, 15, 16], |random, _| {
         let mut spec = generate::near_spec(random, FULL);
         let most = random.between(20, 120) as usize;
         let pairs = generate::cycle_in_range(random, &spec, most);
         spec.size = (1, 1_000);
+        if random.once_in(2) {
+            generate::fit_rates(random, &mut spec, &pairs);
+        }
         let by_minute = cycle::check_laid_out(&spec, &pairs, u64::MAX);
         same(by_minute, cycle::check_laid_out(&spec, &pairs, 0), by_minute, || format!("{spec:?} {pairs:?}"))
     });
-    runner.random("reference: maximum supply by minute", runner.cases / 20, &[0, 6], |random, _| {
+    runner.random("reference: maximum supply by minute", RUNS / 20, &[0, 6], |random, _| {
         let scale = random.pick(&[TINY, SMALL, MID]);
         let spec = generate::near_spec_with_rates(random, scale);
         let k = random.between(1, 30);

@@ -192,7 +192,7 @@ fn most_reports(random: &mut Random, spec: &mut Spec) -> Pair {
 }
 
 /// Moves B and L to what the cycle holds at its fullest and thinnest, or one off.
-fn fit_rates(random: &mut Random, spec: &mut Spec, pairs: &[Pair]) {
+pub fn fit_rates(random: &mut Random, spec: &mut Spec, pairs: &[Pair]) {
     let off = |random: &mut Random, held: u64| {
         let by = random.pick(&[0, 0, 1]);
         random.near(held, by, 20_000)

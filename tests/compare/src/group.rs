@@ -10,11 +10,14 @@ use std::time::Instant;
 
 pub struct Runner {
     pub seed: u64,
-    /// Cases of each group of random inputs.
-    pub cases: u64,
+    /// How many random cases are asked for, `RUNS` being as many as each group names.
+    pub runs: u64,
     pub passed: u64,
     pub failed: u64,
 }
+
+/// The runs that are asked for where the environment does not say otherwise.
+pub const RUNS: u64 = 200_000;
 
 /// What a case says: the answer it met, or how the two sides differ.
 pub type Verdict = Result<u32, String>;
@@ -48,8 +51,8 @@ impl Tally {
 }
 
 impl Runner {
-    /// Runs `cases` random cases. The group fails if one of them does, or if one of the answers that it should reach was
-    /// never met: then the inputs are too tame.
+    /// Runs random cases. `cases` is how many meet every one of the answers, whatever the seed; where the environment asks for
+    /// fewer runs, fewer are made and the answers are not asked for, which the group's line says.
     pub fn random(
         &mut self,
         name: &str,
@@ -57,33 +60,43 @@ impl Runner {
         answers: &[u32],
         case: impl Fn(&mut Random, &mut Library) -> Verdict + Sync,
     ) {
-        let started = Instant::now();
         let seed = self.seed;
-        let tally = run(cases, |number, library| case(&mut Random::of_case(seed, name, number), library));
-        let missing: Vec<&u32> = answers.iter().filter(|a| !tally.answers.contains_key(a)).collect();
-        let text = tally.text(cases, started);
-        match &tally.failure {
-            Some((case, text)) => self.report(false, name, &format!("case {case} of seed {seed}: {text}")),
-            None if !missing.is_empty() && cases >= ENOUGH => {
-                self.report(false, name, &format!("answers never met: {missing:?}; {text}"))
-            }
-            None => self.report(true, name, &text),
-        }
+        let made = (cases * self.runs / RUNS).max(1);
+        let case = |number, library: &mut Library| case(&mut Random::of_case(seed, name, number), library);
+        self.group(name, made, answers, cases, case);
     }
 
     /// Runs cases that are numbered from 0, each of them once.
-    pub fn every(&mut self, name: &str, cases: u64, case: impl Fn(u64, &mut Library) -> Verdict + Sync) {
+    pub fn every(&mut self, name: &str, cases: u64, answers: &[u32], case: impl Fn(u64, &mut Library) -> Verdict + Sync) {
+        self.group(name, cases, answers, cases, case);
+    }
+
+    /// The group fails if a case does, or if, of `enough` cases, none met one of the answers: then the inputs are too tame.
+    fn group(
+        &mut self,
+        name: &str,
+        cases: u64,
+        answers: &[u32],
+        enough: u64,
+        case: impl Fn(u64, &mut Library) -> Verdict + Sync,
+    ) {
+        assert!(!answers.is_empty(), "{name}: a group says which answers it must meet");
         let started = Instant::now();
         let tally = run(cases, case);
+        let missing: Vec<&u32> = answers.iter().filter(|a| !tally.answers.contains_key(a)).collect();
+        let text = tally.text(cases, started);
         match &tally.failure {
-            Some((case, text)) => self.report(false, name, &format!("case {case}: {text}")),
-            None => self.report(true, name, &tally.text(cases, started)),
+            Some((case, text)) => self.report(false, name, &format!("case {case} of seed {}: {text}", self.seed)),
+            None if cases < enough => self.report(true, name, &format!("{text}; answers not asked for below {enough} cases")),
+            None if !missing.is_empty() => self.report(false, name, &format!("answers never met: {missing:?}; {text}")),
+            None => self.report(true, name, &text),
         }
     }
 
     /// A group of fixed checks: each has a name and says whether it holds.
     pub fn fixed(&mut self, name: &str, checks: &[(String, bool)]) {
         match checks.iter().find(|(_, holds)| !holds) {
+            _ if checks.is_empty() => self.report(false, name, "no check was made"),
             Some((check, _)) => self.report(false, name, check),
             None => self.report(true, name, &format!("{} checks", checks.len())),
         }
@@ -126,9 +139,6 @@ fn run(cases: u64, case: impl Fn(u64, &mut Library) -> Verdict + Sync) -> Tally 
     });
     tally.into_inner().unwrap()
 }
-
-/// So many random cases meet every answer that they should, whatever the seed.
-const ENOUGH: u64 = 100_000;
 
 fn panicked(cause: Box<dyn std::any::Any + Send>) -> Verdict {
     let text = cause.downcast_ref::<String>().map(String::as_str);

@@ -1,7 +1,11 @@
 //! Compares the static library with the reference, call by call. One line a group; the last says how many passed.
 //!
-//! MAXELTU_SEED and MAXELTU_RUNS in the environment change the seed (1) and the cases of each call (200,000).
+//! MAXELTU_SEED and MAXELTU_RUNS in the environment change the seed (1) and the cases of each call (200,000). With fewer cases
+//! the groups do not ask for the answers that they must meet otherwise, and say so.
 //! `compare` alone runs all groups of the library; `compare evenplan PROGRAM` those of the program.
+
+// A case that no group runs is a mistake.
+#![deny(dead_code)]
 
 mod calls;
 mod exhaustive;
@@ -13,7 +17,7 @@ mod program;
 mod random;
 mod samples;
 
-use group::Runner;
+use group::{Runner, RUNS};
 
 fn number_from_environment(name: &str, default: u64) -> u64 {
     match std::env::var(name) {
@@ -24,8 +28,8 @@ fn number_from_environment(name: &str, default: u64) -> u64 {
 
 fn main() {
     let seed = number_from_environment("MAXELTU_SEED", 1);
-    let cases = number_from_environment("MAXELTU_RUNS", 200_000);
-    let mut runner = Runner { seed, cases, passed: 0, failed: 0 };
+    let runs = number_from_environment("MAXELTU_RUNS", RUNS);
+    let mut runner = Runner { seed, runs, passed: 0, failed: 0 };
     let arguments: Vec<String> = std::env::args().skip(1).collect();
     match arguments.iter().map(String::as_str).collect::<Vec<_>>()[..] {
         [] => {

@@ -2,7 +2,7 @@
 //! line that says which refusal it met.
 
 use crate::generate;
-use crate::group::{same, Runner};
+use crate::group::{same, Runner, RUNS};
 use crate::random::Random;
 use reference::{even, spec, Plan, Refusal};
 use std::fmt::Write as _;
@@ -24,7 +24,7 @@ pub fn all(runner: &mut Runner, program: &Path) {
             ("a byte short".into(), says(&sample[..16], "refused 2\n")),
         ],
     );
-    runner.random("evenplan on random specifications", (runner.cases / 200).max(1), &[], |random, _| {
+    runner.random("evenplan on random specifications", RUNS / 100, &[0, 1, 2, 3, 4, 10], |random, _| {
         let file = input(random);
         let (answer, wanted) = text(&file);
         same(answer, prints(program, &file)?, wanted, || format!("{file:02x?}"))

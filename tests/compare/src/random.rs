@@ -1,20 +1,24 @@
 //! Random numbers from a seed (SplitMix64), the same on every machine.
 
-pub struct Random(u64);
+pub struct Random {
+    state: u64,
+    /// The case's number, for a group that takes its kinds of input in turn.
+    pub case: u64,
+}
 
 impl Random {
     /// The numbers of one case: they depend on the run's seed, the group's name and the case's number alone.
     pub fn of_case(seed: u64, group: &str, case: u64) -> Random {
-        let mut random = Random(seed);
+        let mut random = Random { state: seed, case };
         for word in group.bytes().map(u64::from).chain([case]) {
-            random.0 = random.next() ^ word;
+            random.state = random.next() ^ word;
         }
         random
     }
 
     pub fn next(&mut self) -> u64 {
-        self.0 = self.0.wrapping_add(0x9E37_79B9_7F4A_7C15);
-        let mut z = self.0;
+        self.state = self.state.wrapping_add(0x9E37_79B9_7F4A_7C15);
+        let mut z = self.state;
         z = (z ^ (z >> 30)).wrapping_mul(0xBF58_476D_1CE4_E5B9);
         z = (z ^ (z >> 27)).wrapping_mul(0x94D0_49BB_1331_11EB);
         z ^ (z >> 31)
