@@ -3,7 +3,7 @@
  * of every call, and the places that a call must leave as they were.
  *
  * Prints a line for each group, whose name starts with the argument if there is
- * one. Exit status 0 if all of them passed.
+ * one, and at the end 'N passed, M failed'. Exit status 0 if none failed.
  */
 #include <stdarg.h>
 #include <stdbool.h>
@@ -15,7 +15,7 @@
 /* ---- groups and checks ---- */
 
 static const char *build = "C", *group;
-static unsigned checks, failures, failed_groups;
+static unsigned checks, failures, passed_groups, failed_groups;
 
 static void begin(const char *name)
 {
@@ -25,11 +25,12 @@ static void begin(const char *name)
 
 static void end(void)
 {
-    printf("%s %s, %s: %u checks", failures ? "FAILED" : "ok    ", build, group, checks);
+    bool passed = checks > 0 && failures == 0;
+    printf("%s %s, %s: %u checks", passed ? "ok    " : "FAILED", build, group, checks);
     if (failures)
         printf(", %u failed", failures);
     printf("\n");
-    failed_groups += failures > 0;
+    *(passed ? &passed_groups : &failed_groups) += 1;
 }
 
 static void check_at(bool holds, const char *text, int line)
@@ -426,5 +427,6 @@ int main(int argc, char **argv)
     reading_cycles();
     writing_cycles();
     longest_cycle();
+    printf("%u passed, %u failed\n", passed_groups, failed_groups);
     return failed_groups > 0;
 }

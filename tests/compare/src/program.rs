@@ -13,17 +13,21 @@ use std::process::{Command, Stdio};
 pub fn all(runner: &mut Runner, program: &Path) {
     let sample: &[u8] = &[0x0F, 0, 2, 0, 3, 0, 5, 0, 5, 0, 0x0F, 0, 0x1A, 0, 0x0A, 0, 0x14];
     let printed = "gap 5 cycle 4 total 10\n0 0 2\n1 5 3\n2 10 2\n3 15 3\n";
-    let says = |file: &[u8], text: &str| prints(program, file).as_deref() == Ok(text);
-    runner.fixed(
-        "evenplan on samples",
-        &[
-            ("B with 15".into(), says(sample, printed)),
-            ("B with 14".into(), says(&[&sample[..9], &[0, 14], &sample[11..]].concat(), "refused 10\n")),
-            ("no bytes".into(), says(&[], "refused 1\n")),
-            ("one byte over".into(), says(&[sample, &[0]].concat(), "refused 2\n")),
-            ("a byte short".into(), says(&sample[..16], "refused 2\n")),
-        ],
-    );
+    let mut checks = vec![];
+    for (name, file, wanted) in [
+        ("B with 15", sample.to_vec(), printed),
+        ("B with 14", [&sample[..9], &[0, 14], &sample[11..]].concat(), "refused 10\n"),
+        ("no bytes", vec![], "refused 1\n"),
+        ("a map without sizes", [&[0x0E], &sample[1..]].concat(), "refused 1\n"),
+        ("one byte over", [sample, &[0]].concat(), "refused 2\n"),
+        ("a byte short", sample[..16].to_vec(), "refused 2\n"),
+        ("B with 0", [&sample[..9], &[0, 0], &sample[11..]].concat(), "refused 3\n"),
+        ("sizes 4 to 3", [&sample[..1], &[0, 4], &sample[3..]].concat(), "refused 4\n"),
+    ] {
+        let got = prints(program, &file);
+        checks.push((format!("{name}: {got:?}"), got.as_deref() == Ok(wanted)));
+    }
+    runner.fixed("evenplan on samples", &checks);
     runner.random("evenplan on random specifications", RUNS / 100, &[0, 1, 2, 3, 4, 10], |random, _| {
         let file = input(random);
         let (answer, wanted) = text(&file);
@@ -41,12 +45,18 @@ fn input(random: &mut Random) -> Vec<u8> {
     file
 }
 
+/// What the program prints, which must end well and complain of nothing.
 fn prints(program: &Path, input: &[u8]) -> Result<String, String> {
     let problem = |error: std::io::Error| format!("{}: {error}", program.display());
-    let mut process = Command::new(program).stdin(Stdio::piped()).stdout(Stdio::piped()).spawn().map_err(problem)?;
-    // A program that has seen enough may close its input early: only what it prints counts.
+    let mut command = Command::new(program);
+    command.stdin(Stdio::piped()).stdout(Stdio::piped()).stderr(Stdio::piped());
+    let mut process = command.spawn().map_err(problem)?;
+    // A program that has seen enough may close its input early: only what it prints, and how it ends, counts.
     let _ = process.stdin.take().expect("a pipe").write_all(input);
     let output = process.wait_with_output().map_err(problem)?;
+    if !output.status.success() || !output.stderr.is_empty() {
+        return Err(format!("{}: {}, {:?}", program.display(), output.status, String::from_utf8_lossy(&output.stderr)));
+    }
     String::from_utf8(output.stdout).map_err(|error| error.to_string())
 }
 
