@@ -29,7 +29,7 @@ fn hex(bytes: &[u8]) -> String {
 }
 
 /// Places as the reference leaves them: what it writes on success, else what they held.
-fn expected<const N: usize>(result: Result<[u64; N], Refusal>, before: [u32; N]) -> Outcome<N> {
+pub fn expected<const N: usize>(result: Result<[u64; N], Refusal>, before: [u32; N]) -> Outcome<N> {
     match result {
         Ok(values) => Outcome { answer: 0, places: values.map(|v| u32::try_from(v).expect("a 32-bit number")) },
         Err(answer) => Outcome { answer, places: before },

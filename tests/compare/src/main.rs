@@ -8,11 +8,13 @@
 #![deny(dead_code)]
 
 mod calls;
+mod checks;
 mod exhaustive;
 mod fence;
 mod generate;
 mod group;
 mod library;
+mod limits;
 mod program;
 mod random;
 mod samples;
@@ -34,6 +36,7 @@ fn main() {
     match arguments.iter().map(String::as_str).collect::<Vec<_>>()[..] {
         [] => {
             samples::all(&mut runner);
+            limits::all(&mut runner);
             calls::reference_itself(&mut runner);
             exhaustive::all(&mut runner);
             calls::all(&mut runner);

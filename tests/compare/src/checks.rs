@@ -1,0 +1,214 @@
+//! Checks whose answers are written out. Each is made twice: of the library, and of the reference.
+
+use crate::calls::expected;
+use crate::group::Runner;
+use crate::library::{Library, Outcome};
+use reference::feasibility::{self, Failure};
+use reference::{cycle, even, file, spec, verdict, Kind, Pair, Plan, Spec};
+use std::fmt::Debug;
+use std::path::Path;
+
+type Numbers = (u64, u64);
+
+pub fn no_rates(size: Numbers, gap: Numbers) -> Spec {
+    Spec { size, gap, supply: None, demand: None, duration: None }
+}
+
+pub fn supply_only(size: Numbers, gap: Numbers, supply: Numbers) -> Spec {
+    Spec { supply: Some(supply), ..no_rates(size, gap) }
+}
+
+pub fn demand_only(size: Numbers, gap: Numbers, demand: Numbers) -> Spec {
+    Spec { demand: Some(demand), ..no_rates(size, gap) }
+}
+
+pub fn both_rates(size: Numbers, gap: Numbers, supply: Numbers, demand: Numbers) -> Spec {
+    Spec { supply: Some(supply), demand: Some(demand), ..no_rates(size, gap) }
+}
+
+/// What lent places hold before each call.
+const HELD: u32 = 0xA5A5_A5A5;
+const HELD_PAIR: Pair = Pair { gap: 0xA5A5, size: 0xA5A5 };
+const HELD_BYTE: u8 = 0xA5;
+
+pub struct Checks {
+    library: Library,
+    made: Vec<(String, bool)>,
+}
+
+/// A group of checks that `make` makes.
+pub fn group(runner: &mut Runner, name: &str, make: impl FnOnce(&mut Checks)) {
+    let mut checks = Checks { library: Library::new(), made: vec![] };
+    make(&mut checks);
+    runner.fixed(name, &checks.made);
+}
+
+impl Checks {
+    pub fn holds(&mut self, text: impl Into<String>, holds: bool) {
+        self.made.push((text.into(), holds));
+    }
+
+    fn both<T: PartialEq + Debug>(&mut self, text: &str, library: T, reference: T, wanted: T) {
+        self.holds(format!("library, {text}: {library:?}, not {wanted:?}"), library == wanted);
+        self.holds(format!("reference, {text}: {reference:?}, not {wanted:?}"), reference == wanted);
+    }
+
+    /// A call's outcome is this refusal, with its places untouched, or these numbers.
+    fn outcome<const N: usize>(
+        &mut self,
+        text: &str,
+        library: Outcome<N>,
+        reference: Result<[u64; N], u32>,
+        wanted: Result<[u64; N], u32>,
+    ) {
+        self.both(text, library, expected(reference, [HELD; N]), expected(wanted, [HELD; N]));
+    }
+
+    /// Every call that takes a specification refuses this file so, and writes nothing.
+    pub fn refused(&mut self, name: &str, file: &[u8], wanted: u32) {
+        let library = &mut self.library;
+        let got = (
+            library.verdict(file, &[0, 1, 3, 0, 5, 0, 2]),
+            library.check_cycle(file, &[Pair { gap: 5, size: 2 }]),
+            library.consistency(file, [HELD]),
+            library.min_demand(file, 1, [HELD; 3]),
+            library.max_supply(file, 1, [HELD; 3]),
+            library.test(file, [HELD; 5]),
+            library.even_plan(file, [HELD; 3]),
+        );
+        let three = expected(Err(wanted), [HELD; 3]);
+        let all = (wanted, wanted, expected(Err(wanted), [HELD]), three, three, expected(Err(wanted), [HELD; 5]), three);
+        self.holds(format!("library, {name}: {got:?}, not {wanted}"), got == all);
+        let read = spec::read(file);
+        self.holds(format!("reference, {name}: {read:?}, not {wanted}"), read == Err(wanted));
+    }
+
+    /// Period, total and required supply; or the refusal.
+    pub fn min_demand(&mut self, name: &str, spec: &Spec, k: u32, wanted: Result<[u64; 3], u32>) {
+        let file = spec::write(spec);
+        let got = self.library.min_demand(&file, k, [HELD; 3]);
+        let made = spec::read(&file).and_then(|spec| feasibility::min_demand(&spec, k.into()));
+        let reference = made.map(|(plan, required)| [plan.period, plan.total, required]);
+        self.outcome(&format!("{name}, minimum demand, k {k}"), got, reference, wanted);
+    }
+
+    /// Period, total and available supply; or the refusal.
+    pub fn max_supply(&mut self, name: &str, spec: &Spec, k: u32, wanted: Result<[u64; 3], u32>) {
+        let file = spec::write(spec);
+        let got = self.library.max_supply(&file, k, [HELD; 3]);
+        let made = spec::read(&file).and_then(|spec| feasibility::max_supply(&spec, k.into(), u64::MAX));
+        let reference = made.map(|(plan, available)| [plan.period, plan.total, available]);
+        self.outcome(&format!("{name}, maximum supply, k {k}"), got, reference, wanted);
+    }
+
+    /// k, period, total and supply; or why not.
+    pub fn test(&mut self, name: &str, spec: &Spec, wanted: Result<[u64; 4], Failure>) {
+        let file = spec::write(spec);
+        let got = self.library.test(&file, [HELD; 5]);
+        let made = spec::read(&file).map_err(Failure::Refused).and_then(|spec| feasibility::test(&spec, u64::MAX));
+        let reference = made.map(|(plan, supply)| [plan.k, plan.period, plan.total, supply]);
+        let outcome = |answer: Result<[u64; 4], Failure>| match answer {
+            Ok([k, period, total, supply]) => expected(Ok([HELD.into(), k, period, total, supply]), [HELD; 5]),
+            Err(Failure::Inconsistent(condition)) => Outcome { answer: 7, places: [condition, HELD, HELD, HELD, HELD] },
+            Err(Failure::Refused(answer)) => expected(Err(answer), [HELD; 5]),
+        };
+        self.both(&format!("{name}, test"), got, outcome(reference), outcome(wanted));
+    }
+
+    /// The condition that fails first, or none.
+    pub fn consistency(&mut self, name: &str, spec: &Spec, wanted: Option<u32>) {
+        let file = spec::write(spec);
+        let got = self.library.consistency(&file, [HELD]);
+        let outcome = |failing: Option<u32>| match failing {
+            Some(condition) => Outcome { answer: 7, places: [condition] },
+            None => Outcome { answer: 0, places: [HELD] },
+        };
+        let made = spec::read(&file).map(|spec| outcome(feasibility::failing_condition(&spec)));
+        let reference = made.unwrap_or_else(|answer| expected(Err(answer), [HELD]));
+        self.both(&format!("{name}, consistency"), got, reference, outcome(wanted));
+    }
+
+    /// Gap, k and total; or the refusal.
+    pub fn even(&mut self, name: &str, spec: &Spec, wanted: Result<[u64; 3], u32>) {
+        let file = spec::write(spec);
+        let got = self.library.even_plan(&file, [HELD; 3]);
+        let made = spec::read(&file).and_then(|spec| even::even_plan(&spec, even::counts_fit));
+        let reference = made.map(|plan| [plan.k, plan.period, plan.total]);
+        self.outcome(&format!("{name}, even plan"), got, reference, wanted.map(|[gap, k, total]| [k, k * gap, total]));
+    }
+
+    /// Minute and size of a report; or the refusal.
+    pub fn report(&mut self, name: &str, plan: Plan, i: u32, wanted: Result<(u64, u64), u32>) {
+        let numbers = [plan.k, plan.period, plan.total].map(|n| n as u32);
+        let got = self.library.report(u32::from(plan.kind == Kind::Even), numbers, i, [HELD; 3]);
+        let reference = if i < 4_096 { plan.report_by_walk(i.into()) } else { plan.report(i.into()) };
+        let halves = |(minute, size): (u64, u64)| [minute >> 32, minute & 0xFFFF_FFFF, size];
+        self.outcome(&format!("{name}, report {i}"), got, reference.map(halves), wanted.map(halves));
+    }
+
+    /// A kind that is neither of the two, which the reference does not have.
+    pub fn unknown_kind(&mut self, kind: u32, numbers: [u32; 3]) {
+        let got = self.library.report(kind, numbers, 0, [HELD; 3]);
+        self.holds(format!("library, kind {kind}: {got:?}"), got == expected(Err(11), [HELD; 3]));
+    }
+
+    /// The check of a cycle, on its pairs and, where they have a file, through the loader's call.
+    pub fn cycle(&mut self, name: &str, spec: &Spec, pairs: &[(u16, u16)], wanted: u32) {
+        let pairs = pairs_of(pairs);
+        let spec_file = spec::write(spec);
+        let got = self.library.check_cycle(&spec_file, &pairs);
+        let reference = spec::read(&spec_file).map_or_else(|refusal| refusal, |spec| cycle::check(&spec, &pairs));
+        self.both(&format!("{name}, check"), got, reference, wanted);
+        if let Ok(cycle_file) = file::write(&pairs, usize::MAX) {
+            self.verdict(name, spec, &cycle_file, wanted);
+        }
+    }
+
+    /// The loader's call.
+    pub fn verdict(&mut self, name: &str, spec: &Spec, cycle_file: &[u8], wanted: u32) {
+        let spec_file = spec::write(spec);
+        let got = self.library.verdict(&spec_file, cycle_file);
+        self.both(&format!("{name}, verdict"), got, verdict(&spec_file, cycle_file), wanted);
+    }
+
+    /// The pairs that a cycle file holds, read into so many places; or the refusal. Other places stay as they are.
+    pub fn read(&mut self, name: &str, file: &[u8], places: usize, wanted: Result<&[(u16, u16)], u32>) {
+        let before = vec![HELD_PAIR; places];
+        let got = self.library.read_cycle(file, &before, HELD);
+        let outcome = |pairs: Result<Vec<Pair>, u32>| {
+            let mut list = before.clone();
+            if let Ok(pairs) = &pairs {
+                list[..pairs.len()].copy_from_slice(pairs);
+            }
+            (expected(pairs.map(|pairs| [pairs.len() as u64]), [HELD]), list)
+        };
+        let reference = outcome(file::read(file, places));
+        self.both(&format!("{name}, read into {places} places"), got, reference, outcome(wanted.map(pairs_of)));
+    }
+
+    /// The file of a cycle, written into so many bytes; or the refusal. Other bytes stay as they are.
+    pub fn write(&mut self, name: &str, pairs: &[(u16, u16)], room: usize, wanted: Result<&[u8], u32>) {
+        let pairs = pairs_of(pairs);
+        let before = vec![HELD_BYTE; room];
+        let got = self.library.write_cycle(&pairs, &before, HELD);
+        let outcome = |file: Result<Vec<u8>, u32>| {
+            let mut bytes = before.clone();
+            if let Ok(file) = &file {
+                bytes[..file.len()].copy_from_slice(file);
+            }
+            (expected(file.map(|file| [file.len() as u64]), [HELD]), bytes)
+        };
+        let reference = outcome(file::write(&pairs, room));
+        self.both(&format!("{name}, written into {room} bytes"), got, reference, outcome(wanted.map(<[u8]>::to_vec)));
+    }
+
+    /// A file in samples/ is that of these numbers.
+    pub fn file(&mut self, name: &str, wanted: &[u8]) {
+        let path = Path::new(env!("CARGO_MANIFEST_DIR")).join("../../samples").join(name);
+        self.holds(format!("samples/{name}"), std::fs::read(path).is_ok_and(|bytes| bytes == wanted));
+    }
+}
+
+fn pairs_of(pairs: &[(u16, u16)]) -> Vec<Pair> {
+    pairs.iter().map(|&(gap, size)| Pair { gap, size }).collect()
+}
