@@ -9,6 +9,7 @@
 
 mod calls;
 mod checks;
+mod edges;
 mod exhaustive;
 mod fence;
 mod generate;
@@ -37,6 +38,7 @@ fn main() {
         [] => {
             samples::all(&mut runner);
             limits::all(&mut runner);
+            edges::all(&mut runner);
             calls::reference_itself(&mut runner);
             exhaustive::all(&mut runner);
             calls::all(&mut runner);

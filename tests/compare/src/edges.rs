@@ -1,0 +1,309 @@
+//! The edges of document 01's conditions and rules: what is just kept, and what breaks by one. Every answer is worked out by hand
+//! from the document, and asked of the library and of the reference.
+
+use crate::checks::{self, both_rates, demand_only, no_rates, supply_only, Checks};
+use crate::group::Runner;
+use reference::feasibility::Failure::{Inconsistent, Refused};
+use reference::Spec;
+
+pub fn all(runner: &mut Runner) {
+    checks::group(runner, "edges of each condition of consistency", consistency);
+    checks::group(runner, "edges of k reports", k_reports);
+    checks::group(runner, "edges of the test", test);
+    checks::group(runner, "edges of the even plan", even_plan);
+    checks::group(runner, "edges of a cycle's ranges", ranges);
+    checks::group(runner, "stretches just full and just thin", stretches);
+}
+
+fn consistency(checks: &mut Checks) {
+    let lasting = |tmin, spec| Spec { duration: Some((tmin, 60_000)), ..spec };
+    let rows = [
+        // 3: dmax ≤ B
+        ("dmax = B", both_rates((2, 10), (5, 20), (10, 60), (5, 60)), None),
+        ("dmax one above B", both_rates((2, 11), (5, 20), (10, 60), (5, 60)), Some(3)),
+        ("B one below dmax", both_rates((2, 10), (5, 20), (9, 60), (5, 60)), Some(3)),
+        ("dmax = B, no demand", supply_only((2, 10), (5, 20), (10, 60)), None),
+        ("dmax one above B, no demand", supply_only((2, 11), (5, 20), (10, 60)), Some(3)),
+        ("dmax 1,000, no supply", demand_only((2, 1_000), (5, 20), (5, 60)), None),
+        // 3: smax ≤ P
+        ("smax = P", both_rates((2, 10), (5, 60), (10, 60), (5, 60)), None),
+        ("smax one above P", both_rates((2, 10), (5, 61), (10, 60), (5, 60)), Some(3)),
+        ("P one below smax", both_rates((2, 10), (5, 60), (10, 60), (5, 59)), Some(3)),
+        ("smax = P, no supply", demand_only((2, 10), (5, 60), (5, 60)), None),
+        ("smax one above P, no supply", demand_only((2, 10), (5, 61), (5, 60)), Some(3)),
+        ("smax 20,160, no demand", supply_only((2, 10), (5, 20_160), (10, 60)), None),
+        // 3: P ≤ Tmin
+        ("P = Tmin", lasting(60, both_rates((2, 10), (5, 20), (10, 60), (5, 60))), None),
+        ("P one above Tmin", lasting(60, both_rates((2, 10), (5, 20), (10, 60), (5, 61))), Some(3)),
+        ("Tmin one below P", lasting(59, both_rates((2, 10), (5, 20), (10, 60), (5, 60))), Some(3)),
+        ("P = Tmin, no supply", lasting(60, demand_only((2, 10), (5, 20), (5, 60))), None),
+        ("P one above Tmin, no supply", lasting(60, demand_only((2, 10), (5, 20), (5, 61))), Some(3)),
+        ("Tmin one below P, no supply", lasting(59, demand_only((2, 10), (5, 20), (5, 60))), Some(3)),
+        ("Tmin 1, no demand", lasting(1, supply_only((2, 10), (5, 20), (10, 60))), None),
+        ("Tmin 1, no rate", lasting(1, no_rates((2, 10), (5, 20))), None),
+        // 4: dmin × ⌊R/smax⌋ ≤ B
+        ("2 × 3 reports = B", both_rates((2, 6), (5, 20), (6, 60), (4, 60)), None),
+        ("2 × 3 reports, B one less", both_rates((2, 5), (5, 20), (5, 60), (4, 60)), Some(4)),
+        ("3 × 3 reports", both_rates((3, 6), (5, 20), (6, 60), (4, 60)), Some(4)),
+        ("2 × 3 reports, R one below 4 gaps", both_rates((2, 6), (5, 20), (6, 79), (4, 60)), None),
+        ("2 × 4 reports, R of 4 gaps", both_rates((2, 6), (5, 20), (6, 80), (4, 60)), Some(4)),
+        ("2 × 4 reports, smax one less", both_rates((2, 6), (5, 19), (6, 79), (4, 60)), Some(4)),
+        ("2 × 3 reports = B, no demand", supply_only((2, 6), (5, 20), (6, 60)), None),
+        ("2 × 3 reports, B one less, no demand", supply_only((2, 5), (5, 20), (5, 60)), Some(4)),
+        // 5: ⌈L/dmax⌉ ≤ ⌊P/smin⌋
+        ("12 of 12 reports", both_rates((2, 10), (5, 20), (100, 10), (120, 60)), None),
+        ("13 of 12 reports, L one more", both_rates((2, 10), (5, 20), (100, 10), (121, 60)), Some(5)),
+        ("12 of 11 reports, P one less", both_rates((2, 10), (5, 20), (100, 10), (120, 59)), Some(5)),
+        ("11 of 11 reports", both_rates((2, 10), (5, 20), (100, 10), (110, 59)), None),
+        ("12 of 10 reports, smin one more", both_rates((2, 10), (6, 20), (100, 10), (120, 60)), Some(5)),
+        ("14 of 12 reports, dmax one less", both_rates((2, 9), (5, 20), (100, 10), (120, 60)), Some(5)),
+        ("12 of 12 reports, no supply", demand_only((2, 10), (5, 20), (120, 60)), None),
+        ("13 of 12 reports, no supply", demand_only((2, 10), (5, 20), (121, 60)), Some(5)),
+        // 6: B × P ≥ L × R
+        ("10 × 60 = 20 × 30", both_rates((2, 10), (5, 20), (10, 30), (20, 60)), None),
+        ("L one more", both_rates((2, 10), (5, 20), (10, 30), (21, 60)), Some(6)),
+        ("R one more", both_rates((2, 10), (5, 20), (10, 31), (20, 60)), Some(6)),
+        ("B one less", both_rates((2, 9), (5, 20), (9, 30), (20, 60)), Some(6)),
+        ("P one less", both_rates((2, 10), (5, 20), (10, 30), (20, 59)), Some(6)),
+        ("256 × 256 one above 255 × 257", both_rates((2, 10), (5, 20), (256, 257), (255, 256)), None),
+        ("255 × 257 one below 256 × 256", both_rates((2, 10), (5, 20), (255, 256), (256, 257)), Some(6)),
+        ("all at the top", both_rates((1, 1_000), (1, 20_159), (20_000, 20_160), (20_000, 20_160)), None),
+        ("all at the top, P one less", both_rates((1, 1_000), (1, 20_159), (20_000, 20_160), (20_000, 20_159)), Some(6)),
+        ("all at the top, B one less", both_rates((1, 1_000), (1, 20_159), (19_999, 20_160), (20_000, 20_160)), Some(6)),
+        // Where several fail, the first is named.
+        ("3 and 4 fail", both_rates((6, 11), (5, 20), (10, 60), (5, 60)), Some(3)),
+        ("3 and 5 fail", both_rates((2, 10), (5, 61), (100, 10), (121, 60)), Some(3)),
+        ("3 and 6 fail", both_rates((2, 11), (5, 20), (10, 30), (21, 60)), Some(3)),
+        ("3 to 6 fail", both_rates((6, 11), (5, 20), (10, 60), (133, 60)), Some(3)),
+        ("4 and 6 fail", both_rates((2, 5), (5, 20), (5, 60), (6, 60)), Some(4)),
+        ("4 to 6 fail", both_rates((2, 5), (5, 20), (5, 60), (61, 60)), Some(4)),
+        ("5 and 6 fail", both_rates((2, 10), (5, 20), (10, 30), (121, 60)), Some(5)),
+    ];
+    for (name, spec, condition) in rows {
+        checks.consistency(name, &spec, condition);
+        // The test names the same condition, after an absent rate.
+        if spec.supply.is_none() || spec.demand.is_none() {
+            checks.test(name, &spec, Err(Refused(5)));
+        } else if let Some(condition) = condition {
+            checks.test(name, &spec, Err(Inconsistent(condition)));
+        }
+    }
+}
+
+fn k_reports(checks: &mut Checks) {
+    // k × smin ≤ P leaves k up to 6, k × dmax ≥ L from 4.
+    let demand = both_rates((2, 5), (4, 9), (100, 30), (20, 24));
+    for (k, wanted) in [
+        (0, Err(6)),
+        (3, Err(6)),
+        (4, Ok([24, 20, 25])),
+        (5, Ok([24, 20, 28])),
+        (6, Ok([24, 20, 28])),
+        (7, Err(6)),
+        // k × smin is 2^32.
+        (1 << 30, Err(6)),
+        (u32::MAX, Err(6)),
+    ] {
+        checks.min_demand("k from 4 to 6", &demand, k, wanted);
+    }
+    for (name, spec, k, wanted) in [
+        ("P one less", both_rates((2, 5), (4, 9), (100, 30), (20, 23)), 6, Err(6)),
+        ("L one more", both_rates((2, 5), (4, 9), (100, 30), (21, 24)), 4, Err(6)),
+        // A report at minute 24 is in the first 25 minutes and not in the first 24.
+        ("R up to the next period", both_rates((2, 5), (4, 9), (100, 24), (20, 24)), 4, Ok([24, 20, 20])),
+        ("R one more", both_rates((2, 5), (4, 9), (100, 25), (20, 24)), 4, Ok([24, 20, 25])),
+        ("k × smax below P", both_rates((2, 5), (4, 5), (100, 30), (20, 24)), 4, Ok([20, 20, 30])),
+        ("k × dmin above L", both_rates((6, 9), (4, 9), (100, 30), (20, 24)), 4, Ok([24, 24, 30])),
+        ("the largest k", both_rates((1, 1), (1, 1), (20_000, 20_160), (20_000, 20_160)), 20_160, Ok([20_160, 20_160, 20_160])),
+        ("past the largest k", both_rates((1, 1), (1, 1), (20_000, 20_160), (20_000, 20_160)), 20_161, Err(6)),
+        ("the most reports needed", both_rates((1, 1), (1, 1), (1, 1), (20_000, 20_160)), 20_000, Ok([20_000, 20_000, 1])),
+        ("one too few", both_rates((1, 1), (1, 1), (1, 1), (20_000, 20_160)), 19_999, Err(6)),
+        ("no supply", demand_only((2, 5), (4, 9), (20, 24)), 0, Err(5)),
+        ("no demand", supply_only((2, 5), (4, 9), (100, 30)), 0, Err(5)),
+    ] {
+        checks.min_demand(name, &spec, k, wanted);
+    }
+    // k × smax ≥ R leaves k from 3, k × dmin ≤ B up to 6.
+    let supply = both_rates((2, 5), (4, 9), (12, 27), (5, 20));
+    for (k, wanted) in [
+        (0, Err(6)),
+        (2, Err(6)),
+        (3, Ok([27, 12, 8])),
+        (6, Ok([27, 12, 8])),
+        (7, Err(6)),
+        // k × dmin is 2^32.
+        (1 << 31, Err(6)),
+        (u32::MAX, Err(6)),
+    ] {
+        checks.max_supply("k from 3 to 6", &supply, k, wanted);
+    }
+    for (name, spec, k, wanted) in [
+        ("R one more", both_rates((2, 5), (4, 9), (12, 28), (5, 20)), 3, Err(6)),
+        ("B one less", both_rates((2, 5), (4, 9), (11, 27), (5, 20)), 6, Err(6)),
+        // Reports 9 minutes apart: 18 minutes always hold two, 17 may hold one.
+        ("P of two gaps", both_rates((2, 5), (4, 9), (12, 27), (5, 18)), 3, Ok([27, 12, 8])),
+        ("P one less", both_rates((2, 5), (4, 9), (12, 27), (5, 17)), 3, Ok([27, 12, 4])),
+        // Sizes 3, 3, 3, 3, 2, 2, 2, 2, of which 20 minutes hold five: at least 3 + 4 × 2.
+        ("k × smin above R", both_rates((2, 5), (4, 9), (20, 27), (5, 20)), 8, Ok([32, 20, 11])),
+        ("k × dmax below B", both_rates((2, 5), (4, 9), (20, 27), (5, 20)), 3, Ok([27, 15, 10])),
+        ("the largest k", both_rates((1, 1), (1, 2), (20_000, 20_160), (1, 20_160)), 20_000, Ok([20_160, 20_000, 20_000])),
+        ("past the largest k", both_rates((1, 1), (1, 2), (20_000, 20_160), (1, 20_160)), 20_001, Err(6)),
+        ("the fewest reports", both_rates((1, 1), (1, 2), (20_000, 20_160), (1, 20_160)), 10_080, Ok([20_160, 10_080, 10_080])),
+        ("one too few", both_rates((1, 1), (1, 2), (20_000, 20_160), (1, 20_160)), 10_079, Err(6)),
+        ("no supply", demand_only((2, 5), (4, 9), (5, 20)), 0, Err(5)),
+        ("no demand", supply_only((2, 5), (4, 9), (12, 27)), 0, Err(5)),
+    ] {
+        checks.max_supply(name, &spec, k, wanted);
+    }
+}
+
+fn test(checks: &mut Checks) {
+    for (name, spec, wanted) in [
+        // With k 2, 3 and 4 a period is 8 minutes and 4 records.
+        ("R = P, least required, smallest k", both_rates((1, 4), (2, 4), (6, 8), (4, 8)), Ok([2, 8, 4, 4])),
+        ("R = P, required = B", both_rates((1, 4), (2, 4), (4, 8), (4, 8)), Ok([2, 8, 4, 4])),
+        // With k 2, 3 and 4 any 8 minutes hold a period, of 6 records; with 5 and 6 they may hold 4.
+        ("R one below P, greatest available, smallest k", both_rates((1, 4), (2, 4), (6, 7), (4, 8)), Ok([2, 7, 6, 6])),
+        ("R one below P, available = L", both_rates((1, 4), (2, 4), (4, 7), (4, 8)), Ok([2, 7, 4, 4])),
+        // Only k 2 has a schedule, of two reports of 5 in 90 minutes: three of them in any 159.
+        ("sample C, available = L", both_rates((5, 6), (45, 46), (10, 79), (15, 159)), Ok([2, 90, 10, 15])),
+        ("sample C, L one above available", both_rates((5, 6), (45, 46), (10, 79), (16, 159)), Err(Refused(9))),
+    ] {
+        checks.test(name, &spec, wanted);
+    }
+}
+
+fn even_plan(checks: &mut Checks) {
+    for (name, spec, wanted) in [
+        // Demand absent: k 1, the period is the gap, the total dmin.
+        ("no rate: the longest gap", no_rates((3, 10), (5, 20)), Ok([20, 1, 3])),
+        ("supply alone: the longest gap", supply_only((3, 10), (5, 20), (9, 50)), Ok([20, 1, 3])),
+        ("supply alone, 3 reports of 3 = B", supply_only((3, 10), (5, 17), (9, 50)), Ok([17, 1, 3])),
+        ("supply alone, B one less", supply_only((3, 10), (5, 17), (8, 50)), Err(10)),
+        ("supply alone, dmin one more", supply_only((4, 10), (5, 17), (9, 50)), Err(10)),
+        ("supply alone, R of 3 gaps", supply_only((3, 10), (5, 17), (9, 51)), Ok([17, 1, 3])),
+        ("supply alone, R one more", supply_only((3, 10), (5, 17), (9, 52)), Err(10)),
+        ("supply alone, smax one less", supply_only((3, 10), (5, 16), (9, 50)), Err(10)),
+        // Demand alone.
+        ("4 reports of 10 = L", demand_only((3, 10), (5, 20), (40, 70)), Ok([17, 4, 40])),
+        ("L one more", demand_only((3, 10), (5, 20), (41, 70)), Ok([14, 5, 41])),
+        ("L one more, no gap so short", demand_only((3, 10), (15, 20), (41, 70)), Err(10)),
+        ("P of 4 gaps", demand_only((3, 10), (5, 20), (40, 68)), Ok([17, 4, 40])),
+        ("P one less", demand_only((3, 10), (5, 20), (40, 67)), Ok([16, 4, 40])),
+        ("P of one gap", demand_only((3, 10), (20, 20), (1, 20)), Ok([20, 1, 3])),
+        ("P below every gap", demand_only((3, 10), (20, 20), (1, 19)), Err(10)),
+        ("m × dmin one above L", demand_only((3, 10), (5, 20), (8, 70)), Ok([20, 3, 9])),
+        ("m × dmin = L", demand_only((3, 10), (5, 20), (9, 70)), Ok([20, 3, 9])),
+        ("m × dmin one below L", demand_only((3, 10), (5, 20), (10, 70)), Ok([20, 3, 10])),
+        // Both rates. At gap 20, 19 and 18 both windows hold 3 reports, at 17 the longer one 4 and the shorter 3.
+        ("both, m × dmin above L", both_rates((3, 10), (5, 20), (9, 50), (8, 70)), Ok([20, 3, 9])),
+        ("both, L above m × dmin", both_rates((3, 10), (5, 20), (10, 50), (10, 70)), Ok([20, 3, 10])),
+        ("both, B one less: a shorter gap", both_rates((3, 10), (5, 20), (9, 50), (10, 70)), Ok([17, 4, 12])),
+        ("both, B two less", both_rates((3, 10), (5, 20), (8, 50), (10, 70)), Err(10)),
+    ] {
+        checks.even(name, &spec, wanted);
+    }
+    // Consistency is no condition: dmax is above B in a specification that has its plan above.
+    checks.consistency("both, m × dmin above L", &both_rates((3, 10), (5, 20), (9, 50), (8, 70)), Some(3));
+}
+
+fn ranges(checks: &mut Checks) {
+    let spec = no_rates((3, 7), (5, 9));
+    let rows: [(&str, &[(u16, u16)], u32); 16] = [
+        ("gap smin, size dmin", &[(5, 3)], 0),
+        ("gap smax, size dmax", &[(9, 7)], 0),
+        ("gap one below smin", &[(4, 3)], 13),
+        ("gap one above smax", &[(10, 3)], 13),
+        ("gap 0", &[(0, 3)], 13),
+        ("gap 65,535", &[(65_535, 3)], 13),
+        ("size one below dmin", &[(5, 2)], 14),
+        ("size one above dmax", &[(5, 8)], 14),
+        ("size 0", &[(5, 0)], 14),
+        ("size 65,535", &[(5, 65_535)], 14),
+        ("last gap one below smin", &[(5, 3), (9, 7), (4, 3)], 13),
+        ("last gap one above smax", &[(5, 3), (9, 7), (10, 3)], 13),
+        ("last size one below dmin", &[(5, 3), (9, 7), (5, 2)], 14),
+        ("last size one above dmax", &[(5, 3), (9, 7), (5, 8)], 14),
+        ("a size, and a gap after it", &[(5, 2), (4, 3)], 13),
+        ("both ends of both ranges", &[(5, 7), (9, 3), (9, 7), (5, 3)], 0),
+    ];
+    for (name, pairs, wanted) in rows {
+        checks.cycle(name, &spec, pairs, wanted);
+    }
+    // Both rates are broken as well; the ranges come first.
+    let rated = both_rates((3, 7), (5, 9), (1, 20), (100, 20));
+    checks.cycle("gap before stretches", &rated, &[(0, 3)], 13);
+    checks.cycle("size before stretches", &rated, &[(5, 2)], 14);
+    checks.cycle("full before thin", &rated, &[(5, 3)], 15);
+}
+
+fn stretches(checks: &mut Checks) {
+    let full = |b, r| supply_only((1, 9), (1, 20), (b, r));
+    let thin = |l, p| demand_only((1, 9), (1, 20), (l, p));
+    let one = [(5, 3)];
+    let two = [(5, 3), (5, 4)];
+    // The last and the first report of a round, side by side across the seam, are the largest or the smallest.
+    let large_ends = [(5, 7), (5, 1), (5, 1), (5, 7)];
+    let small_ends = [(5, 1), (5, 7), (5, 7), (5, 1)];
+    // The gap across the seam is the shortest (minutes 0, 9, 18, 20) or the longest (0, 2, 4, 13).
+    let short_seam = [(9, 3), (9, 3), (2, 3)];
+    let long_seam = [(2, 3), (2, 3), (9, 3)];
+    let mut longest = [(5, 1); 512];
+    (longest[0].1, longest[511].1) = (7, 7);
+    let rows: [(&str, Spec, &[(u16, u16)], u32); 33] = [
+        ("2 reports of 3", full(6, 10), &one, 0),
+        ("2 reports of 3, B one less", full(5, 10), &one, 15),
+        ("3 reports of 3, R one more", full(6, 11), &one, 15),
+        ("3 reports of 3", full(9, 11), &one, 0),
+        ("3 reports of 3, B one less", full(8, 11), &one, 15),
+        ("2 reports of 3", thin(6, 10), &one, 0),
+        ("2 reports of 3, L one more", thin(7, 10), &one, 16),
+        ("1 report of 3, P one less", thin(6, 9), &one, 16),
+        ("1 report of 3", thin(3, 9), &one, 0),
+        ("1 report of 3, L one more", thin(4, 9), &one, 16),
+        ("7 + 7 across the seam", full(14, 6), &large_ends, 0),
+        ("7 + 7 across the seam, B one less", full(13, 6), &large_ends, 15),
+        ("1 + 1 across the seam", thin(2, 10), &small_ends, 0),
+        ("1 + 1 across the seam, L one more", thin(3, 10), &small_ends, 16),
+        ("3 + 3 across a short seam", full(6, 3), &short_seam, 0),
+        ("3 + 3 across a short seam, B one less", full(5, 3), &short_seam, 15),
+        ("R one less", full(5, 2), &short_seam, 0),
+        ("3 across a long seam", thin(3, 9), &long_seam, 0),
+        ("3 across a long seam, L one more", thin(4, 9), &long_seam, 16),
+        ("none across a long seam, P one less", thin(1, 8), &long_seam, 16),
+        ("7 + 7 across the seam of 512 pairs", full(14, 6), &longest, 0),
+        ("7 + 7 across the seam of 512 pairs, B one less", full(13, 6), &longest, 15),
+        // Stretches of two rounds and more.
+        ("4 + 3 + 4 + 3 + 4", full(18, 25), &two, 0),
+        ("4 + 3 + 4 + 3 + 4, B one less", full(17, 25), &two, 15),
+        ("three rounds, R one more", full(21, 26), &two, 0),
+        ("three rounds, B one less", full(20, 26), &two, 15),
+        ("3 + 4 + 3 + 4 + 3", thin(17, 29), &two, 0),
+        ("3 + 4 + 3 + 4 + 3, L one more", thin(18, 29), &two, 16),
+        ("three rounds, P one more", thin(21, 30), &two, 0),
+        ("three rounds, L one more", thin(22, 30), &two, 16),
+        ("15 before 16", both_rates((1, 9), (1, 20), (5, 10), (7, 10)), &one, 15),
+        ("16 where B is kept", both_rates((1, 9), (1, 20), (6, 10), (7, 10)), &one, 16),
+        ("both just kept", both_rates((1, 9), (1, 20), (6, 10), (6, 10)), &one, 0),
+    ];
+    for (name, spec, pairs, wanted) in rows {
+        checks.cycle(name, &spec, pairs, wanted);
+    }
+    // The longest gap with the longest window, and the shortest with the most records.
+    let full = |b, r| supply_only((1, 1_000), (1, 20_160), (b, r));
+    let thin = |l, p| demand_only((1, 1_000), (1, 20_160), (l, p));
+    for (name, spec, pair, wanted) in [
+        ("1,000 in 20,160 minutes", full(1_000, 20_160), (20_160, 1_000), 0),
+        ("1,000 in 20,160 minutes, B one less", full(999, 20_160), (20_160, 1_000), 15),
+        ("1,000 in 20,160 minutes", thin(1_000, 20_160), (20_160, 1_000), 0),
+        ("1,000 in 20,160 minutes, L one more", thin(1_001, 20_160), (20_160, 1_000), 16),
+        ("none in 20,159 minutes", thin(1, 20_159), (20_160, 1_000), 16),
+        ("20,000 in 20,000 minutes", full(20_000, 20_000), (1, 1), 0),
+        ("20,000 in 20,000 minutes, B one less", full(19_999, 20_000), (1, 1), 15),
+        ("20,001 in 20,001 minutes", full(20_000, 20_001), (1, 1), 15),
+        ("20,000 in 20,000 minutes", thin(20_000, 20_000), (1, 1), 0),
+        ("19,999 in 19,999 minutes", thin(20_000, 19_999), (1, 1), 16),
+    ] {
+        checks.cycle(name, &spec, &[pair], wanted);
+    }
+}
