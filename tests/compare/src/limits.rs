@@ -57,7 +57,7 @@ fn numbers(checks: &mut Checks) {
         ("smin 20,160", no_rates((1, 1_000), (20_160, 20_160)), [20_160, 1, 1], (20_160, 1)),
         ("smax 1", no_rates((1, 1_000), (1, 1)), [1, 1, 1], (1, 1)),
         ("smax 20,160", no_rates((1, 1_000), (1, 20_160)), [20_160, 1, 1], (20_160, 1)),
-        // Each rate is just kept: with one record or one minute less, or more, its cycle is refused.
+        // The cycle just keeps the rate.
         ("B 1", supply_only((1, 1), (1, 10), (1, 5)), [10, 1, 1], (5, 1)),
         ("B 20,000", supply_only((1_000, 1_000), (1, 1), (20_000, 20)), [1, 1, 1_000], (1, 1_000)),
         ("R 1", supply_only((1, 1), (1, 1), (1, 1)), [1, 1, 1], (1, 1)),
