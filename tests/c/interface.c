@@ -415,6 +415,25 @@ static void longest_cycle(void)
     end();
 }
 
+/* Not promised: the header tells that this build takes null with length 0 for an empty list or empty bytes. */
+static void null_for_empty(void)
+{
+    begin("null pointers with length 0");
+    struct spec_file b15 = sample_b(15);
+    uint8_t file[8];
+    fill_places();
+    CHECK(maxeltu_verdict(NULL, 0, NULL, 0) == MAXELTU_SPEC_MAP);
+    CHECK(maxeltu_verdict(SPEC(b15), NULL, 0) == MAXELTU_FILE_LENGTH);
+    CHECK(maxeltu_even_plan(NULL, 0, &places[0], &places[1], &places[2]) == MAXELTU_SPEC_MAP);
+    CHECK(maxeltu_check_cycle(SPEC(b15), NULL, 0) == MAXELTU_COUNT);
+    CHECK(maxeltu_read_cycle(NULL, 0, NULL, 0, &places[0]) == MAXELTU_FILE_LENGTH);
+    CHECK(maxeltu_read_cycle(BYTES(0, 1, 3, 0, 5, 0, 2), NULL, 0, &places[0]) == MAXELTU_NO_ROOM);
+    CHECK(maxeltu_write_cycle(NULL, 0, file, sizeof file, &places[0]) == MAXELTU_COUNT);
+    CHECK(maxeltu_write_cycle(&(struct maxeltu_pair){ .gap = 5, .size = 2 }, 1, NULL, 0, &places[0]) == MAXELTU_NO_ROOM);
+    CHECK(untouched());
+    end();
+}
+
 int main(int argc, char **argv)
 {
     if (argc > 1)
@@ -427,6 +446,7 @@ int main(int argc, char **argv)
     reading_cycles();
     writing_cycles();
     longest_cycle();
+    null_for_empty();
     printf("%u passed, %u failed\n", passed_groups, failed_groups);
     return failed_groups > 0;
 }
