@@ -1,6 +1,6 @@
 -- What the check's number says of the endless run, for every cycle: document 01's "a cycle is passed when its check gives no refusal
--- number", against the four rules at every starting minute. Proved in proofs/CyclesPassed.antt,
--- proofs/FlatForms.antt and proofs/Rounds.antt.
+-- number", against the four rules at every starting minute. Proved in proofs/CyclesPassed.antt, proofs/FlatForms.antt and
+-- proofs/Rounds.antt.
 use Prim.Native.Nat.{ℕ, _+_, _*_, _/_, _%_, _≤_, _<_}
 use mathlib.Core.Path.{_≡_}
 use mathlib.Core.Logic.{_↔_}

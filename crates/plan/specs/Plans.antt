@@ -9,7 +9,7 @@ use Rattle.plan.specs.declared.Kind.{Kind}
 use Rattle.plan.specs.declared.Kind.the-variants.{WellFormed, Even}
 use Rattle.plan.specs.declared.Plan.{Plan}
 
--- the kind as a number
+-- the kind as a number, as the C interface has it
 abbrev pub kindNumber : Kind → ℕ
 kindNumber WellFormed = 0
 kindNumber Even = 1
