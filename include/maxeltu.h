@@ -23,8 +23,9 @@
  *    promise it, so do not rely on it.)
  *  - The length of a list or of bytes that is handed in is a size_t, as C counts
  *    them, and any length may be handed in. Every number that is handed out is
- *    a uint32_t (a minute a uint64_t), counts and lengths too: none of those is
- *    above MAXELTU_MAX_CYCLE_FILE, and callers have one type for all of them.
+ *    a uint32_t (a minute a uint64_t), also the count of pairs that were read
+ *    and the length of a file that was written: these are at most 512 and 2562,
+ *    and callers have one type for all of them.
  *  - The places behind two pointers of one call must not overlap, unless the
  *    call only reads both of them.
  *  - No call keeps a pointer, allocates, prints, or holds state between calls:

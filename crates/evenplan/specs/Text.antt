@@ -1,6 +1,6 @@
 -- Document 01, "Samples": what `evenplan` prints. "First line s, k, δ; then for each report of one period its number, minute, size. A
--- refusal prints only the line `refused 10`, with its own number (1 to 4 or 10) in that place." Whatever is written is a line of the
--- answer to what was read. That each of them is, in order, is tested and not proved: no contract can say what the system writes.
+-- refusal prints only the line `refused 10`, with its own number (1 to 4 or 10) in that place." Each line that is handed to
+-- `write_line` is one of these. That each is written, in order, is tested and not proved: no contract can say what the system writes.
 use Prim.Native.Nat.{ℕ, zero, suc, _+_, _/_, _%_, _≤_}
 use mathlib.Core.Path.{_≡_}
 use mathlib.Core.Bool.{true, false, cond}
@@ -43,7 +43,7 @@ planText gap count total =
 abbrev pub planLine : Plan → List ℕ
 planLine p = planText (p .period / p .count) (p .count) (p .total)
 
--- "refused 10, with its own number (1 to 4 or 10) in that place"
+-- "the line `refused 10`, with its own number (1 to 4 or 10) in that place"
 abbrev pub refusalLine : ℕ → List ℕ
 refusalLine n = (114 ∷ 101 ∷ 102 ∷ 117 ∷ 115 ∷ 101 ∷ 100 ∷ 32 ∷ []) ++ decimal n ++ (10 ∷ [])
 

@@ -114,8 +114,8 @@ fn report_line(p: Plan, i: u32) -> Line
     }
 }
 
-// Writes line i of the answer to the file that begins with `front`, and answers whether it was written. All that the program writes
-// goes through here, so that no other text can.
+// Writes line i of the answer to the file that begins with `front`, and answers whether it was written. Nothing else here writes: a
+// text that is no such line cannot be handed over.
 fn write_line(front: &[u8], i: u32, line: Line) -> bool
     requires { ⌜ Holds line (lineOf (evenOf (now front)) i) ⌝ }
 {
