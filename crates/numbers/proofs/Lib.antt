@@ -1,0 +1,2 @@
+pub mod Ceilings
+pub mod All
