@@ -7,7 +7,7 @@ use mathlib.Core.Bool.{Bool, true, false, cond, and-eq-true-iff}
 use lib.Dec.{leb}
 use borrow.Author.Tests.{leb-true, le-leb}
 use Rattle.spec.specs.declared.Spec.{Spec}
-use Rattle.spec.specs.Limits.{between, limits, order, rateLimits, durationLimits, durationOrder, specNumber, IsAccepted, sizeAllowed, gapAllowed, gapTop}
+use Rattle.spec.specs.Limits.{between, limits, order, rateLimits, rangeLimits, rangeOrder, specNumber, IsAccepted, sizeAllowed, gapAllowed, gapTop}
 
 pub leb-iff : (a b : ℕ) → (leb a b ≡ true) ↔ (a ≤ b)
 leb-iff a b = (leb-true a b, le-leb a b)
@@ -30,8 +30,8 @@ pub record Facts (s : Spec) : Type 0 where
   pub gap-high : s .smax ≤ 20160
   pub supply : rateLimits (s .supply) ≡ true
   pub demand : rateLimits (s .demand) ≡ true
-  pub duration : durationLimits (s .duration) ≡ true
-  pub duration-order : durationOrder (s .duration) ≡ true
+  pub duration : rangeLimits 60000 (s .duration) ≡ true
+  pub duration-order : rangeOrder (s .duration) ≡ true
 
 pub facts : (s : Spec) → IsAccepted s → Facts s
 unfolding specNumber limits order

@@ -1,17 +1,15 @@
 -- Document 01, "Specification file": what its bytes stand for; "Reading a specification": refusals 1 to 4, in that order.
 use Prim.Native.Nat.{ℕ, _+_, _*_, _/_, _%_, _^_}
-use mathlib.Core.Bool.{Bool, true, false, cond, _&&_}
+use mathlib.Core.Bool.{Bool, cond, _&&_}
 use mathlib.Core.List.{List}
 use lib.ListN.{length, getD}
 use lib.Dec.{ltb, eqb}
-use Rattle.spec.specs.declared.Rate.{Rate}
 use Rattle.spec.specs.declared.Rate.the-variants.{Absent, Present}
-use Rattle.spec.specs.declared.Duration.{Duration}
-use Rattle.spec.specs.declared.Duration.the-variants.{Absent as NoDuration, Present as DurationOf}
+use Rattle.spec.specs.declared.Range.the-variants.{Absent as NoRange, Present as RangeOf}
 use Rattle.spec.specs.declared.Spec.{Spec}
 use Rattle.spec.specs.declared.SpecRead.{SpecRead}
 use Rattle.spec.specs.declared.SpecRead.the-variants.{Accepted, Refused}
-use Rattle.spec.specs.Limits.{specNumber}
+use Rattle.spec.specs.Limits.{ifAccepted}
 
 -- a 2-byte number at a place, "high byte first"
 abbrev pub word : List ℕ → ℕ → ℕ
@@ -35,14 +33,9 @@ durationAt m = demandAt m + 4 * bit m 3
 abbrev pub fileLength : ℕ → ℕ
 fileLength m = durationAt m + 4 * bit m 4
 
--- "two 2-byte numbers each": the pair at place i, where its bit stands
-abbrev pub ratePair : Bool → List ℕ → ℕ → Rate
-ratePair false b i = Absent
-ratePair true b i = Present (word b i) (word b (i + 2))
-
-abbrev pub durationPair : Bool → List ℕ → ℕ → Duration
-durationPair false b i = NoDuration
-durationPair true b i = DurationOf (word b i) (word b (i + 2))
+-- "two 2-byte numbers each": what the pair at place i makes where its bit stands
+abbrev pub ifStands : {A : Type 0} → ℕ → A → (ℕ → ℕ → A) → List ℕ → ℕ → A
+ifStands stands absent present b i = cond (eqb stands 1) (present (word b i) (word b (i + 2))) absent
 
 abbrev pub specAt : ℕ → List ℕ → Spec
 specAt m b = record {
@@ -50,23 +43,27 @@ specAt m b = record {
   dmax = word b 3;
   smin = word b 5;
   smax = word b 7;
-  supply = ratePair (eqb (bit m 2) 1) b 9;
-  demand = ratePair (eqb (bit m 3) 1) b (demandAt m);
-  duration = durationPair (eqb (bit m 4) 1) b (durationAt m);
+  supply = ifStands (bit m 2) Absent Present b 9;
+  demand = ifStands (bit m 3) Absent Present b (demandAt m);
+  duration = ifStands (bit m 4) NoRange RangeOf b (durationAt m);
 }
 
 -- the specification, or its refusal 3 or 4
-unfoldable pub judged : Spec → SpecRead
-judged s = cond (eqb (specNumber s) 0) (Accepted s) (Refused (specNumber s))
+abbrev pub accept : Spec → SpecRead
+accept s = ifAccepted s (Accepted s) Refused
 
 -- "1 no first byte, or bit 5 to 7 stands, or bit 0 or 1 doesn't; 2 the length is not what the map calls for"; then 3 and 4
 unfoldable pub readSpec : List ℕ → SpecRead
 readSpec b =
     cond (ltb 0 (length b) && mapGood (getD b 0 0))
-    (cond (eqb (length b) (fileLength (getD b 0 0))) (judged (specAt (getD b 0 0) b)) (Refused 2))
+    (cond (eqb (length b) (fileLength (getD b 0 0))) (accept (specAt (getD b 0 0) b)) (Refused 2))
     (Refused 1)
+
+-- "Later steps go on only with an accepted specification", else they tell the number of its refusal
+abbrev pub ifRead : {A : Type 0} → SpecRead → (Spec → A) → (ℕ → A) → A
+ifRead (Accepted s) goOn tell = goOn s
+ifRead (Refused n) goOn tell = tell n
 
 -- the number of a refusal, 0 where the specification is accepted
 abbrev pub readNumber : SpecRead → ℕ
-readNumber (Accepted s) = 0
-readNumber (Refused n) = n
+readNumber read = ifRead read (λ s. 0) (λ n. n)

@@ -1,4 +1,4 @@
-// A specification: its numbers with two rates and a duration that may be absent, the limits and the order of its values,
+// A specification: its numbers with two rates and a range of durations that may be absent, the limits and the order of its values,
 // and its file (document 01, "The specification"). Refusals 1 to 4. What the numbers mean for a schedule is left to the
 // crates above; `refusal` names the numbers of every refusal.
 pub mod refusal;
@@ -9,8 +9,11 @@ ghost use mathlib.Core.Bool.{Bool};
 ghost use Prim.Native.Nat.{_+_, _*_, _<_, _≤_};
 ghost use lib.Dec.{eqb};
 ghost use lib.ListN.{length, getD};
-ghost use Rattle.spec.specs.Limits.{between, rateLimits, durationLimits, limits, durationOrder, order, specNumber, sizeAllowed, gapAllowed};
-ghost use Rattle.spec.specs.File.{readNumber, word, bit, demandAt, durationAt, fileLength, ratePair, durationPair, specAt, judged, readSpec};
+ghost use Rattle.spec.specs.declared.Rate.the-variants.{Absent, Present};
+ghost use Rattle.spec.specs.declared.Range.the-variants.{Absent as NoRange, Present as RangeOf};
+ghost use Rattle.spec.specs.Limits.{between, boundsLimits, rateLimits, rangeLimits, limits, rangeOrder, order, specNumber, sizeAllowed, gapAllowed};
+ghost use Rattle.spec.specs.File.{readNumber, word, demandAt, durationAt, fileLength, ifStands, specAt, accept, readSpec};
+ghost use Rattle.spec.specs.Rates.{bothRates, started, ratesNumber};
 
 // A rate, which may be absent: so many records in so many minutes. A supply rate (B, R) is the most that so many minutes
 // may hold, a demand rate (L, P) the least.
@@ -19,8 +22,8 @@ pub enum Rate {
     Present { records: u16, minutes: u16 },
 }
 
-// The duration, which may be absent: Tmin and Tmax.
-pub enum Duration {
+// A range, which may be absent: from `min` to `max`, as Tmin to Tmax.
+pub enum Range {
     Absent,
     Present { min: u16, max: u16 },
 }
@@ -33,7 +36,7 @@ pub struct Spec {
     pub smax: u16,
     pub supply: Rate,
     pub demand: Rate,
-    pub duration: Duration,
+    pub duration: Range,
 }
 
 // What reading a specification file gives: an accepted specification, or the number of its refusal.
@@ -42,10 +45,49 @@ pub enum SpecRead {
     Refused(u32),
 }
 
+// B and R of the supply rate, L and P of the demand rate.
+pub struct Rates {
+    pub b: u16,
+    pub r: u16,
+    pub l: u16,
+    pub p: u16,
+}
+
+// Both rates, or the number of the refusal where one is absent.
+pub enum BothRates {
+    Both(Rates),
+    Refused(u32),
+}
+
 fn within(lo: u16, hi: u16, x: u16) -> bool
     ensures { λ r. ⌜ r ≡ between lo hi x ⌝ }
 {
     (lo <= x) & (x <= hi)
+}
+
+// Whether both bounds of a range are 1 to `top`.
+fn bounds_limits(top: u16, lo: u16, hi: u16) -> bool
+    ensures { λ r. ⌜ r ≡ boundsLimits top lo hi ⌝ }
+{
+    within(1, top, lo) & within(1, top, hi)
+}
+
+fn range_limits(top: u16, x: Range) -> bool
+    ensures { λ r. ⌜ r ≡ rangeLimits top x ⌝ }
+{
+    match x {
+        Range::Absent => true,
+        Range::Present { min, max } => bounds_limits(top, min, max),
+    }
+}
+
+fn range_order(x: Range) -> bool
+    ensures { λ r. ⌜ r ≡ rangeOrder x ⌝ }
+{
+    match x {
+        Range::Absent => true,
+        Range::Present { min, max } => min <= max,
+    }
 }
 
 fn rate_limits(x: Rate) -> bool
@@ -57,44 +99,24 @@ fn rate_limits(x: Rate) -> bool
     }
 }
 
-fn duration_limits(x: Duration) -> bool
-    ensures { λ r. ⌜ r ≡ durationLimits x ⌝ }
-{
-    match x {
-        Duration::Absent => true,
-        Duration::Present { min, max } => within(1, 60000, min) & within(1, 60000, max),
-    }
-}
-
 fn in_limits(s: Spec) -> bool
     ensures { λ r. ⌜ r ≡ limits s ⌝ }
 {
     let supply = s.supply;
     let demand = s.demand;
     let duration = s.duration;
-    within(1, 1000, s.dmin)
-        & within(1, 1000, s.dmax)
-        & within(1, 20160, s.smin)
-        & within(1, 20160, s.smax)
+    bounds_limits(1000, s.dmin, s.dmax)
+        & bounds_limits(20160, s.smin, s.smax)
         & rate_limits(supply)
         & rate_limits(demand)
-        & duration_limits(duration)
-}
-
-fn duration_order(x: Duration) -> bool
-    ensures { λ r. ⌜ r ≡ durationOrder x ⌝ }
-{
-    match x {
-        Duration::Absent => true,
-        Duration::Present { min, max } => min <= max,
-    }
+        & range_limits(60000, duration)
 }
 
 fn in_order(s: Spec) -> bool
     ensures { λ r. ⌜ r ≡ order s ⌝ }
 {
     let duration = s.duration;
-    (s.dmin <= s.dmax) & (s.smin <= s.smax) & duration_order(duration)
+    (s.dmin <= s.dmax) & (s.smin <= s.smax) & range_order(duration)
 }
 
 // 0, or the number of the refusal with which every operation on a specification begins.
@@ -121,8 +143,50 @@ pub fn gap_allowed(s: Spec, gap: u16) -> bool
     within(s.smin, s.smax, gap)
 }
 
+// B, R, L and P, where both rates are there, or refusal 5.
+fn both_rates(s: Spec) -> BothRates
+    ensures { λ r. ⌜ r ≡ bothRates s ⌝ }
+{
+    let supply = s.supply;
+    let demand = s.demand;
+    match supply {
+        Rate::Absent => BothRates::Refused(refusal::RATE_ABSENT),
+        Rate::Present {
+            records: b,
+            minutes: r,
+        } => match demand {
+            Rate::Absent => BothRates::Refused(refusal::RATE_ABSENT),
+            Rate::Present {
+                records: l,
+                minutes: p,
+            } => BothRates::Both(Rates { b, r, l, p }),
+        },
+    }
+}
+
+// What schedules for k reports and the test begin with: both rates of an accepted specification, or refusal 3, 4 or 5.
+pub fn started(s: Spec) -> BothRates
+    ensures { λ r. ⌜ r ≡ started s ⌝ }
+{
+    let n = spec_number(s);
+    if n != 0 {
+        return BothRates::Refused(n);
+    }
+    both_rates(s)
+}
+
+// The number of a refusal, 0 where both rates are there.
+pub fn rates_number(q: BothRates) -> u32
+    ensures { λ n. ⌜ n ≡ ratesNumber q ⌝ }
+{
+    match q {
+        BothRates::Both(_) => 0,
+        BothRates::Refused(n) => n,
+    }
+}
+
 fn accepted(s: Spec) -> SpecRead
-    ensures { λ r. ⌜ r ≡ judged s ⌝ }
+    ensures { λ r. ⌜ r ≡ accept s ⌝ }
 {
     let n = spec_number(s);
     if n == 0 {
@@ -132,24 +196,31 @@ fn accepted(s: Spec) -> SpecRead
     }
 }
 
-fn wide(x: u8) -> u16
+fn wide(x: u8) -> usize
     ensures { λ r. ⌜ (r ≡ x) × (r < 256) ⌝ }
 {
-    x as u16
+    x as usize
 }
 
-// The 2-byte number at a place, high byte first.
+// The number of two bytes, high byte first.
+pub fn two_bytes(high: u8, low: u8) -> u16
+    ensures { λ r. ⌜ r ≡ high * 256 + low ⌝ }
+{
+    (high as u16) * 256 + (low as u16)
+}
+
+// The 2-byte number at a place.
 fn word_at(b: &[u8], i: usize) -> u16
     requires { ⌜ i + 1 < length (now b) ⌝ }
     ensures { λ r. ⌜ r ≡ word (now (b .entry)) i ⌝ }
 {
-    wide(b[i]) * 256 + wide(b[i + 1])
+    two_bytes(b[i], b[i + 1])
 }
 
-// A rate whose bit of the map is `stands`, 0 or 1.
+// A rate, a range whose bit of the map is `stands`, 0 or 1.
 fn rate_at(stands: usize, b: &[u8], i: usize) -> Rate
     requires { ⌜ i + 4 * stands ≤ length (now b) ⌝ }
-    ensures { λ r. ⌜ r ≡ ratePair (eqb stands 1) (now (b .entry)) i ⌝ }
+    ensures { λ r. ⌜ r ≡ ifStands stands Absent Present (now (b .entry)) i ⌝ }
 {
     if stands == 1 {
         Rate::Present {
@@ -161,31 +232,49 @@ fn rate_at(stands: usize, b: &[u8], i: usize) -> Rate
     }
 }
 
-fn duration_at(stands: usize, b: &[u8], i: usize) -> Duration
+fn range_at(stands: usize, b: &[u8], i: usize) -> Range
     requires { ⌜ i + 4 * stands ≤ length (now b) ⌝ }
-    ensures { λ r. ⌜ r ≡ durationPair (eqb stands 1) (now (b .entry)) i ⌝ }
+    ensures { λ r. ⌜ r ≡ ifStands stands NoRange RangeOf (now (b .entry)) i ⌝ }
 {
     if stands == 1 {
-        Duration::Present {
+        Range::Present {
             min: word_at(b, i),
             max: word_at(b, i + 2),
         }
     } else {
-        Duration::Absent
+        Range::Absent
     }
 }
 
+// Where the pairs that may be absent stand, and where the file ends, by its map.
+fn demand_at(m: usize) -> usize
+    requires { ⌜ m < 256 ⌝ }
+    ensures { λ r. ⌜ r ≡ demandAt m ⌝ }
+{
+    9 + 4 * (m / 4 % 2)
+}
+
+fn duration_at(m: usize) -> usize
+    requires { ⌜ m < 256 ⌝ }
+    ensures { λ r. ⌜ r ≡ durationAt m ⌝ }
+{
+    demand_at(m) + 4 * (m / 8 % 2)
+}
+
+fn file_length(m: usize) -> usize
+    requires { ⌜ m < 256 ⌝ }
+    ensures { λ r. ⌜ r ≡ fileLength m ⌝ }
+{
+    duration_at(m) + 4 * (m / 16 % 2)
+}
+
 fn spec_at(m: usize, b: &[u8]) -> Spec
-    requires { ⌜ fileLength m ≤ length (now b) ⌝ }
+    requires { ⌜ (m < 256) × (fileLength m ≤ length (now b)) ⌝ }
     ensures { λ r. ⌜ r ≡ specAt m (now (b .entry)) ⌝ }
 {
-    let has_supply = m / 4 % 2;
-    let has_demand = m / 8 % 2;
-    let has_duration = m / 16 % 2;
-    let at = 9 + 4 * has_supply;
-    let supply = rate_at(has_supply, b, 9);
-    let demand = rate_at(has_demand, b, at);
-    let duration = duration_at(has_duration, b, at + 4 * has_demand);
+    let supply = rate_at(m / 4 % 2, b, 9);
+    let demand = rate_at(m / 8 % 2, b, demand_at(m));
+    let duration = range_at(m / 16 % 2, b, duration_at(m));
     Spec {
         dmin: word_at(b, 1),
         dmax: word_at(b, 3),
@@ -204,11 +293,11 @@ pub fn read_spec(bytes: &[u8]) -> SpecRead
     if bytes.len() == 0 {
         return SpecRead::Refused(refusal::MAP);
     }
-    let m = wide(bytes[0]) as usize;
+    let m = wide(bytes[0]);
     if !((m % 4 == 3) & (m < 32)) {
         return SpecRead::Refused(refusal::MAP);
     }
-    if bytes.len() != 9 + 4 * (m / 4 % 2) + 4 * (m / 8 % 2) + 4 * (m / 16 % 2) {
+    if bytes.len() != file_length(m) {
         return SpecRead::Refused(refusal::LENGTH);
     }
     accepted(spec_at(m, bytes))

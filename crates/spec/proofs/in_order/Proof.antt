@@ -4,12 +4,12 @@ use Rattle.spec.specs.Limits.{order}
 use Rattle.spec.proofs.in_order.Statement.{statement}
 use Rattle.spec.proofs.in_order.Tie as tie
 
-duration-order-requires : tie.Need-duration-order-requires
-duration-order-requires c κs = search needs
+range-order-requires : tie.Need-range-order-requires
+range-order-requires c κs = search needs
 
 returns : tie.Need-returns
 unfolding order
 returns c = cc
 
 pub in-order-spec : {M : Type 1} → statement M
-in-order-spec = tie.close (tie.spec duration-order-requires returns)
+in-order-spec = tie.close (tie.spec range-order-requires returns)

@@ -3,26 +3,20 @@ use borrow.Author.Needs.{needs}
 use Rattle.spec.proofs.spec_at.Statement.{statement}
 use Rattle.spec.proofs.spec_at.Tie as tie
 
-mul-at : tie.Need-mul-at
-mul-at c = search needs
-
-add-at : tie.Need-add-at
-add-at c = search needs
-
 rate-at-requires : tie.Need-rate-at-requires
 rate-at-requires c κs = search needs
+
+demand-at-requires : tie.Need-demand-at-requires
+demand-at-requires c κs = search needs
 
 rate-at-requires-2 : tie.Need-rate-at-requires-2
 rate-at-requires-2 c κs = search needs
 
-mul-duration-at : tie.Need-mul-duration-at
-mul-duration-at c = search needs
-
-add-duration-at : tie.Need-add-duration-at
-add-duration-at c = search needs
-
 duration-at-requires : tie.Need-duration-at-requires
 duration-at-requires c κs = search needs
+
+range-at-requires : tie.Need-range-at-requires
+range-at-requires c κs = search needs
 
 word-at-requires : tie.Need-word-at-requires
 word-at-requires c κs = search needs
@@ -38,9 +32,11 @@ word-at-requires-4 c κs = search needs
 
 returns : tie.Need-returns
 returns c = rw (
-  c .before .before .before .before .before .before .rate-at .ensures,
-  c .before .before .before .before .before .rate-at2 .ensures,
-  c .before .before .before .before .duration-at .ensures,
+  c .before .before .before .before .before .before .before .before .rate-at .ensures,
+  c .before .before .before .before .before .before .rate-at2 .ensures,
+  c .before .before .before .before .before .before .before .demand-at .ensures,
+  c .before .before .before .before .range-at .ensures,
+  c .before .before .before .before .before .duration-at .ensures,
   c .before .before .before .word-at .ensures,
   c .before .before .word-at2 .ensures,
   c .before .word-at3 .ensures,
@@ -51,13 +47,11 @@ pub spec-at-spec : {M : Type 1} → statement M
 spec-at-spec =
     tie.close
     (tie.spec
-    mul-at
-    add-at
     rate-at-requires
+    demand-at-requires
     rate-at-requires-2
-    mul-duration-at
-    add-duration-at
     duration-at-requires
+    range-at-requires
     word-at-requires
     word-at-requires-2
     word-at-requires-3
