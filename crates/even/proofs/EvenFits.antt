@@ -17,9 +17,11 @@ use Rattle.schedule.specs.Rules.{Obeys, SupplyKept, DemandMet}
 use Rattle.schedule.proofs.Sums.{block, block-none, block-add, block-part, block-most, block-least}
 use Rattle.plan.specs.Plans.{evenSize}
 use Rattle.plan.proofs.EvenSizes.{even-block-most, even-block-least, even-size-most, even-size-least}
-use Rattle.even.specs.Even.{mostIn, countAt, totalOf, demandFits, supplyFits, fits}
-use Rattle.even.specs.Statements.{evenly, ArithmeticRight}
-use Rattle.even.proofs.OneGap.{even-stretch, stretch-few, stretch-many, stretch-at-report, stretch-after-report}
+use Rattle.even.specs.Even.{countAt, totalOf, demandFits, supplyFits, fits, evenly}
+use Rattle.even.specs.Statements.{ArithmeticRight}
+use Rattle.numbers.specs.Numbers.{ceil}
+use Rattle.numbers.proofs.Ceilings.{ceil-add-most, ceil-add-least}
+use Rattle.even.proofs.OneGap.{even-stretch, stretch-at-report, stretch-after-report}
 
 -- m reports between dmin and dmax can hold δ
 pub record Holds (m δ dmin dmax : ℕ) : Type 0 where
@@ -45,8 +47,8 @@ module _ (g : ℕ) (pos : 0 < g) where
   supply-kept Absent m δ h e = tt
   supply-kept (Present b r) m δ h e = λ a.
       rw (even-stretch g pos (evenSize m δ) a r)
-      (le-trans (block-part (evenSize m δ) (mostIn a g) _ (mostIn r g) (omega (arith, stretch-few g pos a r)))
-      (even-block-most m δ h b (mostIn a g) (mostIn r g) (leb-true _ _ e)))
+      (le-trans (block-part (evenSize m δ) (ceil a g) _ (ceil r g) (omega (arith, ceil-add-most g pos a r)))
+      (even-block-most m δ h b (ceil a g) (ceil r g) (leb-true _ _ e)))
 
   demand-met : (r : Rate) (dmin : ℕ) → 0 < countAt r g → DemandMet r (evenly g (evenSize (countAt r g) (totalOf r dmin (countAt r g))))
   unfolding countAt totalOf
@@ -55,8 +57,8 @@ module _ (g : ℕ) (pos : 0 < g) where
       let m = p / g in
       let δ = max (m * dmin) l in
       rw (even-stretch g pos (evenSize m δ) a p)
-      (le-trans (le-trans (le-max-right (m * dmin) l) (even-block-least m δ h δ (mostIn a g) m (le-refl _)))
-      (block-part (evenSize m δ) (mostIn a g) m _ (omega (arith, stretch-many g pos a p))))
+      (le-trans (le-trans (le-max-right (m * dmin) l) (even-block-least m δ h δ (ceil a g) m (le-refl _)))
+      (block-part (evenSize m δ) (ceil a g) m _ (omega (arith, ceil-add-least g pos a p))))
 
   -- From the rules to the arithmetic, for any sizes f.
   module _ (f : ℕ → ℕ) where
@@ -89,9 +91,9 @@ module _ (g : ℕ) (pos : 0 < g) where
     unfolding supplyFits
     supply-fits Absent m δ h k = refl
     supply-fits (Present b r) m δ h k =
-        let least : mostIn r g * δ ≤ block f 1 (mostIn r g * m) = blocks-least δ m h (mostIn r g) 0 in
-        let most : block f 1 (m * mostIn r g) ≤ m * b = blocks-most b (mostIn r g) (λ j. rw (stretch-at-report g pos f j r) at (k (j * g))) m 1 in
-        le-leb _ _ (le-trans least (rw (mul-comm (mostIn r g) m) most))
+        let least : ceil r g * δ ≤ block f 1 (ceil r g * m) = blocks-least δ m h (ceil r g) 0 in
+        let most : block f 1 (m * ceil r g) ≤ m * b = blocks-most b (ceil r g) (λ j. rw (stretch-at-report g pos f j r) at (k (j * g))) m 1 in
+        le-leb _ _ (le-trans least (rw (mul-comm (ceil r g) m) most))
 
 -- the even plan's sizes at a gap g
 abbrev pub sizesAt : Spec → ℕ → ℕ → ℕ

@@ -4,17 +4,19 @@ use Prim.Native.Nat.{ℕ, _/_, _≤_, _<_}
 use native.Mathlib.Omega.{arith}
 use native.Mathlib.Nat.{le-mul-of-pos-right, mul-le-mul-right, le-trans, mul-mod-right, div-le-self, mul-comm, mul-div-cancel-left}
 use mathlib.Core.Path.{_≡_, refl, sym, _∙_, subst}
-use mathlib.Core.Logic.{⊎-elim}
+use mathlib.Core.Logic.{_↔_, ⊎-elim}
 use mathlib.Core.Bool.{Bool, true, false, cond, _&&_, and-eq-true-iff}
 use mathlib.Core.List.{List}
 use lib.Dec.{eqb}
-use borrow.Author.Tests.{eqb-true, eqb-false, eq-eqb}
+use borrow.Author.Tests.{eqb-true, eqb-false}
 use Rattle.spec.specs.declared.Spec.{Spec}
 use Rattle.spec.specs.declared.SpecRead.{SpecRead}
 use Rattle.spec.specs.declared.SpecRead.the-variants.{Accepted, Refused as NotRead}
 use Rattle.spec.specs.declared.Rate.{Rate}
 use Rattle.spec.specs.declared.Rate.the-variants.{Absent, Present}
-use Rattle.spec.specs.Limits.{specNumber, IsAccepted, rateLimits, gapAllowed, gapTop}
+use Rattle.spec.specs.Limits.{IsAccepted, rateLimits, gapAllowed, gapTop}
+use Rattle.spec.specs.File.{readSpec, ifRead}
+use Rattle.spec.proofs.GoingOn.{goes-on, went-on}
 use Rattle.spec.proofs.Facts.{facts, leb-iff, gap-allowed-pos, gap-allowed-top, gap-top-high}
 use Rattle.schedule.specs.Rules.{Obeys}
 use Rattle.schedule.proofs.Sums.{lt-cases}
@@ -22,31 +24,33 @@ use Rattle.plan.specs.declared.Plan.{Plan}
 use Rattle.plan.specs.Plans.{proper, run, kindRun}
 use Rattle.plan.proofs.Proper.{ProperBounds, proper-kind}
 use Rattle.even.specs.declared.EvenPlan.the-variants.{Found, Refused}
-use Rattle.even.specs.Even.{evenGap, evenPlan, planOr10, evenPlanAt, evenOfRead, evenOf, fits, countAt}
-use Rattle.even.specs.Statements.{evenly, EvenPlanObeys, EvenPlanLongest, EvenPlanGiven, EvenPlanRefused}
+use Rattle.even.specs.Even.{evenGap, evenPlan, planOr10, evenPlanAt, evenOf, fits, countAt, evenly}
+use Rattle.even.specs.Statements.{EvenPlanGiven}
 use Rattle.even.proofs.Search.{Largest, largest-right}
 use Rattle.even.proofs.EvenFits.{fits-holds, fits-obeys, obeys-fits}
 use Rattle.even.proofs.Cases.{plan-none, plan-some}
 
 -- What is known where a plan is given, or 10 to an accepted specification.
-module _ (n x : ℕ) (q : Plan) where
-  if-found : (p : Plan) (a b : Bool) → eqb n 0 ≡ a → eqb x 0 ≡ b
-      → cond a (cond b (Refused 10) (Found q)) (Refused n) ≡ Found p → (n ≡ 0) × (¬ (x ≡ 0)) × (q ≡ p)
-  if-found p true true ea eb e = absurd (let z : _≡_ {A = ℕ} 0 1 = cc in omega arith)
-  if-found p true false ea eb e = (eqb-true n 0 ea, eqb-false x 0 eb, cc)
-  if-found p false b ea eb e = absurd (let z : _≡_ {A = ℕ} 0 1 = cc in omega arith)
+module _ (s : Spec) where
+  if-found : (p : Plan) (b : Bool) → eqb (evenGap s) 0 ≡ b → cond b (Refused 10) (Found (evenPlanAt s (evenGap s))) ≡ Found p
+      → (¬ (evenGap s ≡ 0)) × (evenPlanAt s (evenGap s) ≡ p)
+  if-found p true t e = absurd (let z : _≡_ {A = ℕ} 0 1 = cc in omega arith)
+  if-found p false t e = (eqb-false (evenGap s) 0 t, cc)
 
-  if-refused : (b : Bool) → eqb x 0 ≡ b → cond b (Refused 10) (Found q) ≡ Refused 10 → x ≡ 0
-  if-refused true eb e = eqb-true x 0 eb
-  if-refused false eb e = absurd (let z : _≡_ {A = ℕ} 0 1 = cc in omega arith)
+  if-refused : (b : Bool) → eqb (evenGap s) 0 ≡ b → cond b (Refused 10) (Found (evenPlanAt s (evenGap s))) ≡ Refused 10 → evenGap s ≡ 0
+  if-refused true t e = eqb-true (evenGap s) 0 t
+  if-refused false t e = absurd (let z : _≡_ {A = ℕ} 0 1 = cc in omega arith)
 
 found : (s : Spec) (p : Plan) → evenPlan s ≡ Found p → IsAccepted s × (¬ (evenGap s ≡ 0)) × (evenPlanAt s (evenGap s) ≡ p)
 unfolding evenPlan planOr10
-found s p e = if-found (specNumber s) (evenGap s) (evenPlanAt s (evenGap s)) p _ _ refl refl e
+found s p e =
+    let on = went-on s (planOr10 s (evenGap s)) Refused (Found p) (λ n l m h. absurd (let z : _≡_ {A = ℕ} 0 1 = cc in omega arith)) e in
+    let r = if-found s p _ refl (on .1) in
+    (on .0, r .0, r .1)
 
 refused : (s : Spec) → IsAccepted s → evenPlan s ≡ Refused 10 → evenGap s ≡ 0
 unfolding evenPlan planOr10
-refused s ok e = if-refused (specNumber s) (evenGap s) (evenPlanAt s (evenGap s)) _ refl (rw (eq-eqb (specNumber s) 0 ok) at e)
+refused s ok e = if-refused s _ refl (sym (goes-on s (planOr10 s (evenGap s)) Refused ok) ∙ e)
 
 -- The gap at which the search ends is allowed and fits, unless it is 0.
 gap-search : (s : Spec) → Largest (λ g. gapAllowed s g && fits s g) (gapTop s) (evenGap s)
@@ -102,14 +106,15 @@ module _ (s : Spec) (g : ℕ) (ok : IsAccepted s) (allowed : gapAllowed s g ≡ 
   unfolding evenPlanAt
   plan-at-gap = mul-div-cancel-left g (fits-holds s g ok (gap-allowed-pos s g ok allowed) e .some)
 
-pub even-plan-obeys : EvenPlanObeys
+pub even-plan-obeys : (s : Spec) (p : Plan) → evenPlan s ≡ Found p → (proper p ≡ true) × Obeys s (run p)
 even-plan-obeys s p e =
     let r = found s p e in
     let f = gap-right s (r .1) in
     subst (λ (q : Plan). (proper q ≡ true) × Obeys s (run q)) (r .2)
     (plan-at-proper s (evenGap s) (r .0) (f .0) (f .1), plan-at-obeys s (evenGap s) (r .0) (f .0) (f .1))
 
-pub even-plan-longest : EvenPlanLongest
+-- At every gap longer than the plan's, which is π/k, each endless list of sizes breaks a rule.
+pub even-plan-longest : (s : Spec) (p : Plan) → evenPlan s ≡ Found p → (g : ℕ) → p .period / p .count < g → (sizes : ℕ → ℕ) → ¬ Obeys s (evenly g sizes)
 even-plan-longest s p e g h =
     let r = found s p e in
     let f = gap-right s (r .1) in
@@ -126,7 +131,8 @@ even-plan-given s ok g sizes o =
       omega (arith, plan-at-gap s (evenGap s) ok (f .0) (f .1)),
     )
 
-pub even-plan-refused : EvenPlanRefused
+-- 10 exactly when every schedule with one gap throughout breaks a rule, whatever the gap, 0 included, and whatever the sizes.
+pub even-plan-refused : (s : Spec) → IsAccepted s → (evenPlan s ≡ Refused 10) ↔ ((g : ℕ) (sizes : ℕ → ℕ) → ¬ Obeys s (evenly g sizes))
 even-plan-refused s ok = (
   λ e g sizes o. gap-longest s ok g (omega (arith, refused s ok e, gap-allowed-pos s g ok (o .gaps 0))) sizes o,
   λ none.
@@ -139,10 +145,9 @@ even-plan-refused s ok = (
 )
 
 -- and so of a specification file
-found-proper : (x : SpecRead) (p : Plan) → evenOfRead x ≡ Found p → proper p ≡ true
-unfolding evenOfRead
+found-proper : (x : SpecRead) (p : Plan) → ifRead x evenPlan Refused ≡ Found p → proper p ≡ true
 found-proper (Accepted s) p e = even-plan-obeys s p e .0
 found-proper (NotRead n) p e = absurd (let z : _≡_ {A = ℕ} 0 1 = cc in omega arith)
 
 pub even-of-proper : (b : List ℕ) (p : Plan) → evenOf b ≡ Found p → proper p ≡ true
-even-of-proper b p e = found-proper _ p e
+even-of-proper b p e = found-proper (readSpec b) p e

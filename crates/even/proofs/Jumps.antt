@@ -11,27 +11,15 @@ use Rattle.spec.specs.declared.Rate.{Rate}
 use Rattle.spec.specs.declared.Rate.the-variants.{Absent, Present}
 use Rattle.spec.specs.declared.Spec.{Spec}
 use Rattle.schedule.proofs.Sums.{lt-cases}
-use Rattle.even.specs.Even.{mostIn, countAt, totalOf, demandFits, supplyFits, fits}
+use Rattle.even.specs.Even.{countAt, totalOf, demandFits, supplyFits, fits}
 use Rattle.even.specs.Search.{nextGap}
-use Rattle.even.proofs.OneGap.{most-iff}
-
--- the most reports in r minutes only fall as the gap grows
-most-falls : (r t s : ℕ) → 0 < t → t ≤ s → mostIn r s ≤ mostIn r t
-most-falls r t s pos h =
-    ⊎-elim
-    (λ q.
-    absurd
-    (let a : mostIn r t * s < r = most-iff s (omega arith) (mostIn r t) r .1 q in
-    let b : mostIn r t < mostIn r t = most-iff t pos (mostIn r t) r .0 (omega (arith, mul-le-mul-left (mostIn r t) h)) in
-    omega arith))
-    (λ q. q)
-    (lt-cases (mostIn r t) (mostIn r s))
+use Rattle.numbers.proofs.Ceilings.{ceil-falls}
 
 supply-longer : (r : Rate) (t s m δ : ℕ) → 0 < t → t ≤ s → supplyFits r t m δ ≡ true → supplyFits r s m δ ≡ true
 unfolding supplyFits
 supply-longer Absent t s m δ pos h e = refl
 supply-longer (Present b r) t s m δ pos h e =
-    le-leb _ _ (le-trans (mul-le-mul-right δ (most-falls r t s pos h)) (leb-true _ _ e))
+    le-leb _ _ (le-trans (mul-le-mul-right δ (ceil-falls r t s pos h)) (leb-true _ _ e))
 
 fits-longer : (spec : Spec) (t s : ℕ) → 0 < t → t ≤ s → countAt (spec .demand) t ≡ countAt (spec .demand) s → fits spec t ≡ true → fits spec s ≡ true
 unfolding fits

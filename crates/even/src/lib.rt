@@ -1,6 +1,8 @@
 // The even plan: the longest gap at which an endless list of sizes obeys the rules, with k, period and total (document 01, "The
 // even plan"). Refusal 10, after a specification's own. The sizes themselves are crate `plan`'s; here are the arithmetic that says
 // whether a gap has such a list, and the search for the longest one, which tries few of up to 20,160 gaps.
+use numbers::ceil_div;
+use numbers::larger;
 use plan::Kind;
 use plan::Plan;
 use spec::Rate;
@@ -8,30 +10,15 @@ use spec::Spec;
 use spec::SpecRead;
 use spec::refusal;
 ghost use mathlib.Core.Path.{_≡_};
-ghost use Prim.Native.Nat.{_≤_, max};
+ghost use Prim.Native.Nat.{_≤_};
 ghost use Rattle.spec.specs.Limits.{specNumber};
-ghost use Rattle.even.specs.Even.{mostIn, countAt, totalOf, demandFits, supplyFits, fits, evenGap, evenPlanAt, evenPlan, evenOf, evenNumber};
+ghost use Rattle.even.specs.Even.{countAt, totalOf, demandFits, supplyFits, fits, evenGap, evenPlanAt, evenPlan, evenOf};
 ghost use Rattle.even.specs.Search.{evenGapIn, nextGap};
 
 // The even plan, or the number of its refusal.
 pub enum EvenPlan {
     Found(Plan),
     Refused(u32),
-}
-
-fn larger(a: u64, b: u64) -> u64
-    ensures { λ r. ⌜ r ≡ max a b ⌝ }
-{
-    if a <= b { b } else { a }
-}
-
-// The most reports in any r minutes.
-fn most_in(r: u16, s: u16) -> u64
-    requires { ⌜ 1 ≤ s ⌝ }
-    ensures { λ n. ⌜ (n ≡ mostIn r s) × (n ≤ 131070) ⌝ }
-{
-    let gap = s as u64;
-    (r as u64 + (gap - 1)) / gap
 }
 
 // The fewest reports in any P minutes; 1 where demand is absent.
@@ -75,13 +62,15 @@ fn demand_fits(demand: Rate, dmax: u16, m: u64) -> bool
     }
 }
 
+// The most reports in R minutes hold at most B, where every m in a row hold the total.
 fn supply_fits(supply: Rate, s: u16, m: u64, total: u64) -> bool
     requires { ⌜ (1 ≤ s) × (m ≤ 65535) × (total ≤ 4294836225) ⌝ }
     ensures { λ r. ⌜ r ≡ supplyFits supply s m total ⌝ }
 {
     match supply {
         Rate::Absent => true,
-        Rate::Present { records, minutes } => most_in(minutes, s) * total <= m * (records as u64),
+        Rate::Present { records, minutes } => ceil_div(minutes as u64, s as u64) * total
+            <= m * (records as u64),
     }
 }
 
@@ -174,14 +163,4 @@ pub fn even_of(bytes: &[u8]) -> EvenPlan
         return EvenPlan::Refused(spec::read_number(read));
     };
     even_plan(spec)
-}
-
-// The number of a refusal, 0 where there is a plan.
-pub fn even_number(r: EvenPlan) -> u32
-    ensures { λ n. ⌜ n ≡ evenNumber r ⌝ }
-{
-    match r {
-        EvenPlan::Found(_) => 0,
-        EvenPlan::Refused(n) => n,
-    }
 }

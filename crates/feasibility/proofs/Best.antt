@@ -10,15 +10,16 @@ use borrow.Author.Tests.{ltb-true, ltb-false}
 use Rattle.spec.specs.declared.Spec.{Spec}
 use Rattle.schedule.proofs.Sums.{lt-cases}
 use Rattle.plan.specs.declared.Plan.{Plan}
-use Rattle.feasibility.specs.declared.Family.{Family}
-use Rattle.feasibility.specs.declared.Family.the-variants.{MinimumDemand, MaximumSupply}
-use Rattle.feasibility.specs.declared.Rates.{Rates}
-use Rattle.feasibility.specs.declared.Scheduled.{Scheduled}
-use Rattle.feasibility.specs.declared.Scheduled.the-variants.{Found, Refused}
-use Rattle.feasibility.specs.Families.{exists, planFor, supplyFigure, scheduled}
-use Rattle.feasibility.specs.Test.{isBetter, betterOf, takenUpTo, lastCount, taken}
-use Rattle.feasibility.specs.Statements.{AsGood}
-use Rattle.feasibility.proofs.Plans.{Known, in-range, scheduled-none, scheduled-some}
+use Rattle.families.specs.declared.Family.{Family}
+use Rattle.families.specs.declared.Family.the-variants.{MinimumDemand, MaximumSupply}
+use Rattle.spec.specs.declared.Rates.{Rates}
+use Rattle.families.specs.declared.Scheduled.{Scheduled}
+use Rattle.families.specs.declared.Scheduled.the-variants.{Found, Refused}
+use Rattle.families.specs.Families.{scheduleFor}
+use Rattle.feasibility.specs.Test.{isBetter, betterOf, takenUpTo, lastCount, taken, AsGood, BestOfAll}
+use Rattle.spec.proofs.KnownRates.{Known}
+use Rattle.families.proofs.Plans.{in-range}
+use Rattle.families.proofs.Schedules.{found-at}
 use Rattle.feasibility.proofs.Taking.{exists-count}
 
 -- figures of a family are ordered
@@ -118,48 +119,28 @@ module _ (f : Family) (schedule : ℕ → Scheduled) where
   best-up-to zero = (refl, λ k a b other w x. absurd (omega arith))
   best-up-to (suc n) = step n (takenUpTo f schedule n) (schedule (suc n)) refl (best-up-to n)
 
--- A schedule that is found exists, and is the one that the definitions give.
-pub record Exists (f : Family) (s : Spec) (q : Rates) (k : ℕ) (plan : Plan) (v : ℕ) : Type 0 where
-  pub there : exists f s q k ≡ true
-  pub is : planFor f s q k ≡ plan
-  pub figure : supplyFigure f q plan ≡ v
-  pub count : plan .count ≡ k
-
-pub found-exists : (f : Family) (s : Spec) (q : Rates) (k : ℕ) (plan : Plan) (v : ℕ) → scheduled f s q k ≡ Found plan v → Exists f s q k plan v
-unfolding planFor
-found-exists f s q k plan v e = pick (exists f s q k) refl
-  where
-    pick : (b : Bool) → exists f s q k ≡ b → Exists f s q k plan v
-    pick true h =
-        let x = scheduled-some f s q k h in
-        let p : planFor f s q k ≡ plan = cc in
-        record { there = h; is = p; figure = cc; count = rw (← p) refl }
-    pick false h = absurd (let x = scheduled-none f s q k h in let z : _≡_ {A = ℕ} 0 1 = cc in omega arith)
-
 module _ (s : Spec) (q : Rates) (n : Known s q) (f : Family) where
   -- what is taken, against every k
   abbrev pub TakenOf : Scheduled → Type 0
-  TakenOf (Refused m) = (m ≡ 8) × ((k : ℕ) (other : Plan) (w : ℕ) → scheduled f s q k ≡ Found other w → ⊥)
-  TakenOf (Found plan v) =
-      (scheduled f s q (plan .count) ≡ Found plan v)
-      × ((k : ℕ) (other : Plan) (w : ℕ) → scheduled f s q k ≡ Found other w → AsGood f v w)
-      × ((k : ℕ) (other : Plan) → scheduled f s q k ≡ Found other v → plan .count ≤ k)
+  TakenOf (Refused m) = (m ≡ 8) × ((k : ℕ) (other : Plan) (w : ℕ) → scheduleFor f s k ≡ Found other w → ⊥)
+  TakenOf (Found plan v) = BestOfAll f s plan v
 
-  some : (k : ℕ) (other : Plan) (w : ℕ) → scheduled f s q k ≡ Found other w → 1 ≤ k
-  some k other w x = in-range s q n f k (found-exists f s q k other w x .there) .some
+  some : (k : ℕ) (other : Plan) (w : ℕ) → scheduleFor f s k ≡ Found other w → 1 ≤ k
+  some k other w x = in-range s q n f k (found-at f s q k other w (n .both) x .at .there) .some
 
-  below : (k : ℕ) (other : Plan) (w : ℕ) → scheduled f s q k ≡ Found other w → k ≤ lastCount f q
-  below k other w x = exists-count s q n f k (found-exists f s q k other w x .there)
+  below : (k : ℕ) (other : Plan) (w : ℕ) → scheduleFor f s k ≡ Found other w → k ≤ lastCount f q
+  below k other w x = exists-count s q n f k (found-at f s q k other w (n .both) x .at .there)
 
   pub taken-best : TakenOf (taken f s q)
   unfolding taken NoneUpTo
-  taken-best = all (takenUpTo f (scheduled f s q) (lastCount f q)) (best-up-to f (scheduled f s q) (lastCount f q))
+  taken-best = all (takenUpTo f (scheduleFor f s) (lastCount f q)) (best-up-to f (scheduleFor f s) (lastCount f q))
     where
-      all : (t : Scheduled) → BestUpTo f (scheduled f s q) (lastCount f q) t → TakenOf t
+      all : (t : Scheduled) → BestUpTo f (scheduleFor f s) (lastCount f q) t → TakenOf t
       all (Refused m) h = (h .0, λ k other w x. h .1 k (some k other w x) (below k other w x) other w x)
       all (Found plan v) h =
-          let c : plan .count ≡ h .j = found-exists f s q (h .j) plan v (h .is) .count in (
-            ap (scheduled f s q) c ∙ h .is,
-            λ k other w x. h .best k (some k other w x) (below k other w x) other w x,
-            λ k other x. rw c (h .first k (some k other v x) (below k other v x) other x),
-          )
+          let c : plan .count ≡ h .j = found-at f s q (h .j) plan v (n .both) (h .is) .at .count in
+          record {
+            schedule = ap (scheduleFor f s) c ∙ h .is;
+            best = λ k other w x. h .best k (some k other w x) (below k other w x) other w x;
+            first = λ k other x. rw c (h .first k (some k other v x) (below k other v x) other x);
+          }

@@ -1,8 +1,3 @@
-pub mod Negated
-pub mod Ceilings
-pub mod Fronts
-pub mod Figures
-pub mod Plans
 pub mod Taking
 pub mod Best
 pub mod Obeying

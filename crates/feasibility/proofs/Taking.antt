@@ -10,16 +10,18 @@ use mathlib.Core.Bool.{Bool, true, false, and-eq-true-iff}
 use Rattle.spec.specs.declared.Spec.{Spec}
 use Rattle.spec.proofs.Facts.{facts, leb-iff}
 use Rattle.schedule.proofs.Sums.{lt-cases}
-use Rattle.feasibility.specs.declared.Family.{Family}
-use Rattle.feasibility.specs.declared.Family.the-variants.{MinimumDemand, MaximumSupply}
-use Rattle.feasibility.specs.declared.Rates.{Rates}
-use Rattle.feasibility.specs.declared.Scheduled.{Scheduled}
-use Rattle.feasibility.specs.declared.Scheduled.the-variants.{Refused}
-use Rattle.feasibility.specs.Consistency.{ceil}
-use Rattle.feasibility.specs.Families.{exists, scheduled}
+use Rattle.families.specs.declared.Family.{Family}
+use Rattle.families.specs.declared.Family.the-variants.{MinimumDemand, MaximumSupply}
+use Rattle.spec.specs.declared.Rates.{Rates}
+use Rattle.families.specs.declared.Scheduled.{Scheduled}
+use Rattle.families.specs.declared.Scheduled.the-variants.{Refused}
+use Rattle.numbers.specs.Numbers.{ceil}
+use Rattle.families.specs.Families.{exists, scheduleFor}
 use Rattle.feasibility.specs.Test.{betterOf, takenUpTo, lastCount, taken}
-use Rattle.feasibility.proofs.Ceilings.{ceil-le-iff}
-use Rattle.feasibility.proofs.Plans.{Known, in-range, scheduled-none}
+use Rattle.numbers.proofs.Ceilings.{ceil-le-iff}
+use Rattle.spec.proofs.KnownRates.{Known}
+use Rattle.families.proofs.Plans.{in-range}
+use Rattle.families.proofs.Schedules.{none-at}
 
 module _ (f : Family) (schedule : ℕ → Scheduled) where
   better-none : (t : Scheduled) (n : ℕ) → betterOf f t (Refused n) ≡ t
@@ -79,12 +81,12 @@ module _ (s : Spec) (q : Rates) (n : Known s q) where
       let x = simp (and-eq-true-iff, leb-iff) at e in le-trans (le-mul-of-pos-right k (facts s (n .accepted) .size-low)) (x .1)
 
   module _ (f : Family) where
-    pub none-there : (k : ℕ) → (exists f s q k ≡ true → ⊥) → scheduled f s q k ≡ Refused 6
+    pub none-there : (k : ℕ) → (exists f s q k ≡ true → ⊥) → scheduleFor f s k ≡ Refused 6
     none-there k h = pick (exists f s q k) refl
       where
-        pick : (b : Bool) → exists f s q k ≡ b → scheduled f s q k ≡ Refused 6
+        pick : (b : Bool) → exists f s q k ≡ b → scheduleFor f s k ≡ Refused 6
         pick true e = absurd (h e)
-        pick false e = scheduled-none f s q k e
+        pick false e = none-at f s q k n e
 
     -- from the first to the last number of reports with a schedule
     module _ {first last : ℕ} (exactly : (k : ℕ) → (exists f s q k ≡ true) ↔ ((first ≤ k) × (k ≤ last))) where
@@ -92,23 +94,23 @@ module _ (s : Spec) (q : Rates) (n : Known s q) where
       some-first =
           ⊎-elim (λ z. absurd (let r = in-range s q n f 0 (exactly 0 .1 (omega arith, omega arith)) in omega (arith, r .some))) (λ z. z) (lt-cases first 1)
 
-      pub starts : Refused 8 ≡ takenUpTo f (scheduled f s q) (first - 1)
+      pub starts : Refused 8 ≡ takenUpTo f (scheduleFor f s) (first - 1)
       starts =
-          sym (taken-before f (scheduled f s q) (first - 1) (λ j h. none-there j (λ e. let r = exactly j .0 e in omega (arith, some-first))))
+          sym (taken-before f (scheduleFor f s) (first - 1) (λ j h. none-there j (λ e. let r = exactly j .0 e in omega (arith, some-first))))
 
-      pub turns : (k : ℕ) {best : Scheduled} → 1 ≤ k → best ≡ takenUpTo f (scheduled f s q) (k - 1)
-          → betterOf f best (scheduled f s q k) ≡ takenUpTo f (scheduled f s q) (k + 1 - 1)
+      pub turns : (k : ℕ) {best : Scheduled} → 1 ≤ k → best ≡ takenUpTo f (scheduleFor f s) (k - 1)
+          → betterOf f best (scheduleFor f s k) ≡ takenUpTo f (scheduleFor f s) (k + 1 - 1)
       turns k h e =
           let a : k + 1 - 1 ≡ k - 1 + 1 = omega arith in
           let b : k - 1 + 1 ≡ k = omega arith in
-          rw (a, taken-more f (scheduled f s q) (k - 1), b, e)
+          rw (a, taken-more f (scheduleFor f s) (k - 1), b, e)
 
-      pub ends : (k : ℕ) {best : Scheduled} → 1 ≤ k → last < k → best ≡ takenUpTo f (scheduled f s q) (k - 1) → best ≡ taken f s q
+      pub ends : (k : ℕ) {best : Scheduled} → 1 ≤ k → last < k → best ≡ takenUpTo f (scheduleFor f s) (k - 1) → best ≡ taken f s q
       unfolding taken
       ends k h over e =
           let top = lastCount f q in
-          let here : takenUpTo f (scheduled f s q) (k - 1 + top) ≡ takenUpTo f (scheduled f s q) (k - 1) =
-          taken-after f (scheduled f s q) (k - 1) top (λ j a. none-there j (λ x. let r = exactly j .0 x in omega arith)) in
-          let there : takenUpTo f (scheduled f s q) (top + (k - 1)) ≡ takenUpTo f (scheduled f s q) top =
-          taken-after f (scheduled f s q) top (k - 1) (λ j a. none-there j (λ x. let r = exists-count f j x in omega arith)) in
-          e ∙ sym here ∙ ap (takenUpTo f (scheduled f s q)) (add-comm (k - 1) top) ∙ there
+          let here : takenUpTo f (scheduleFor f s) (k - 1 + top) ≡ takenUpTo f (scheduleFor f s) (k - 1) =
+          taken-after f (scheduleFor f s) (k - 1) top (λ j a. none-there j (λ x. let r = exactly j .0 x in omega arith)) in
+          let there : takenUpTo f (scheduleFor f s) (top + (k - 1)) ≡ takenUpTo f (scheduleFor f s) top =
+          taken-after f (scheduleFor f s) top (k - 1) (λ j a. none-there j (λ x. let r = exists-count f j x in omega arith)) in
+          e ∙ sym here ∙ ap (takenUpTo f (scheduleFor f s)) (add-comm (k - 1) top) ∙ there

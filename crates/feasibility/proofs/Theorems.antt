@@ -1,41 +1,30 @@
--- The theorems of specs/Statements.antt.
-use Prim.Native.Nat.{ℕ, _%_, _-_, _≤_}
+-- The theorems of specs/Statements.antt, and what the demands' page says of the test.
+use Prim.Native.Nat.{ℕ, _≤_}
 use native.Mathlib.Omega.{arith}
 use mathlib.Core.Path.{_≡_, refl, sym, _∙_}
 use mathlib.Core.Logic.{⊎-elim}
-use mathlib.Core.Bool.{Bool, true, false, cond}
-use lib.Dec.{eqb}
+use mathlib.Core.Bool.{true}
 use borrow.Author.Tests.{le-leb}
-use Rattle.spec.specs.Limits.{specNumber}
+use Rattle.spec.specs.declared.Spec.{Spec}
+use Rattle.spec.specs.declared.BothRates.{BothRates}
+use Rattle.spec.specs.declared.BothRates.the-variants.{Both, Refused as NoRates}
+use Rattle.spec.specs.Rates.{started, ifRates}
+use Rattle.spec.proofs.GoingOn.{started-both}
+use Rattle.spec.proofs.KnownRates.{known}
 use Rattle.schedule.specs.Rules.{Obeys}
-use Rattle.plan.specs.Plans.{proper, run}
-use Rattle.feasibility.specs.declared.Family.the-variants.{MinimumDemand, MaximumSupply}
-use Rattle.feasibility.specs.declared.BothRates.{BothRates}
-use Rattle.feasibility.specs.declared.BothRates.the-variants.{Both, Missing}
-use Rattle.feasibility.specs.declared.Tested.the-variants.{Passed, Refused}
 use Rattle.schedule.proofs.Sums.{lt-cases}
-use Rattle.feasibility.specs.Families.{bothRates, required, supplyFigure}
-use Rattle.feasibility.specs.Test.{familyOf, taken, testTaken, testRates, testOf}
-use Rattle.feasibility.specs.Statements.{TestSound, RequiredMost, AvailableLeast, TestPasses, TestNotPassed, TestNoneExists, NoneOnlyBelow}
-use Rattle.feasibility.proofs.Figures.{required-fullest, available-least, available-held}
-use Rattle.feasibility.proofs.Plans.{known, scheduled-some}
+use Rattle.plan.specs.declared.Plan.{Plan}
+use Rattle.plan.specs.Plans.{proper, run}
+use Rattle.consistency.specs.Consistency.{consistencyOf}
+use Rattle.consistency.proofs.Conditions.{consistent-accepted}
+use Rattle.families.specs.declared.Family.the-variants.{MinimumDemand}
+use Rattle.families.proofs.Schedules.{found-at, some-at}
+use Rattle.feasibility.specs.declared.Tested.the-variants.{Passed, Refused}
+use Rattle.feasibility.specs.Test.{familyOf, taken, testTaken, testConsistent, testOf}
+use Rattle.feasibility.specs.Statements.{TestPasses, TestNotPassed, TestNoneExists, NoneOnlyBelow}
 use Rattle.feasibility.proofs.Taking.{firstWith}
-use Rattle.feasibility.proofs.Obeying.{schedule-at, found-at, obeys}
-use Rattle.feasibility.proofs.Outcomes.{enough-reports, consistent-accepted, conditions-hold, tests-taken, consistent, best-taken, unique, passed, not-passed, none-exists, none-taken, refused}
-
-pub required-is-most : RequiredMost
-unfolding supplyFigure required
-required-is-most s q k plan v e h =
-    let x = found-at MinimumDemand s q k plan v e h in
-    (x .at .figure, λ a. rw (← x .at .figure) (required-fullest plan (x .ok) (x .well) (q .r) a))
-
-pub available-is-least : AvailableLeast
-unfolding supplyFigure
-available-is-least s q k plan v e h =
-    let x = found-at MaximumSupply s q k plan v e h in (
-      λ a. rw (← x .at .figure) (available-least plan (x .ok) (x .well) (q .p) a),
-      (plan .period - q .p % plan .period, available-held plan (x .ok) (x .well) (q .p) ∙ x .at .figure),
-    )
+use Rattle.feasibility.proofs.Obeying.{obeys}
+use Rattle.feasibility.proofs.Outcomes.{enough-reports, tests-taken, consistent, best-taken, unique, passed, not-passed, none-exists, none-taken, refused}
 
 pub test-passes : TestPasses
 unfolding testTaken
@@ -74,19 +63,17 @@ test-none-exists s q e = (
       consistent s q e (h .0) ∙ none-taken s q e a (taken (familyOf q) s q) (best-taken s q e a) (h .1),
 )
 
-pub test-sound : TestSound
-unfolding testOf testRates
-test-sound s plan v x = pick (bothRates s) refl
+-- The plan that the test passes is proper, and its endless run obeys the four rules.
+pub test-sound : (s : Spec) (plan : Plan) (v : ℕ) → testOf s ≡ Passed plan v → (proper plan ≡ true) × Obeys s (run plan)
+unfolding testOf
+test-sound s plan v x = pick (started s) refl x
   where
-    missing : bothRates s ≡ Missing → (b : Bool) → cond b (testRates (bothRates s) s) (Refused (specNumber s)) ≡ Passed plan v → ⊥
-    missing e true y = let r = rw e at y in let z : _≡_ {A = ℕ} 0 1 = cc in omega arith
-    missing e false y = let z : _≡_ {A = ℕ} 0 1 = cc in omega arith
-
-    pick : (r : BothRates) → bothRates s ≡ r → (proper plan ≡ true) × Obeys s (run plan)
-    pick Missing e = absurd (missing e (eqb (specNumber s) 0) x)
-    pick (Both q) e =
-        let h = test-passes s q plan v e .0 x in
-        let g = found-at (familyOf q) s q (plan .count) plan v e (h .1 .schedule) in
+    pick : (r : BothRates) → started s ≡ r → ifRates r (λ q. testConsistent (consistencyOf s) s q) Refused ≡ Passed plan v → (proper plan ≡ true) × Obeys s (run plan)
+    pick (NoRates n) e y = absurd (let z : _≡_ {A = ℕ} 0 1 = cc in omega arith)
+    pick (Both q) e y =
+        let both = started-both s q e .1 in
+        let h = test-passes s q plan v both .0 x in
+        let g = found-at (familyOf q) s q (plan .count) plan v both (h .1 .schedule) in
         (g .ok, obeys s q (plan .count) plan v (familyOf q) g (h .2))
 
 pub none-only-below : NoneOnlyBelow
@@ -96,10 +83,9 @@ none-only-below s q e x = ⊎-elim (λ h. h) (λ h. absurd (never h)) (lt-cases 
     never : q .p ≤ q .r → ⊥
     never h =
         let none = test-none-exists s q e .0 x in
-        let a = consistent-accepted s (none .0) in
-        let n = known s q a e in
+        let n = known s q (consistent-accepted s (none .0)) e in
         let k = firstWith MinimumDemand s q in
-        let some = scheduled-some MinimumDemand s q k (enough-reports s q n (conditions-hold s (none .0))) in
-        let same = sym (schedule-at MinimumDemand s q k a e) ∙ rw (le-leb _ _ h) at (none .1 k) in
+        let some = some-at MinimumDemand s q k n (enough-reports s q n (none .0)) in
+        let same = rw (le-leb _ _ h) at (none .1 k) in
         let z : _≡_ {A = ℕ} 0 1 = cc in
         omega arith

@@ -2,24 +2,24 @@
 -- most B. Otherwise take the maximum supply schedule with the greatest available supply; it passes if that is at least L. Equal: the
 -- smaller k."; and what it turns down: 3, 4, "5 a rate is absent; 7 inconsistent, and this refusal carries the condition that failed
 -- first; 8 no k has a schedule; 9 the schedule taken does not pass."
-use Prim.Native.Nat.{ℕ, zero, suc}
+use Prim.Native.Nat.{ℕ, zero, suc, _≤_}
+use mathlib.Core.Path.{_≡_}
 use mathlib.Core.Bool.{Bool, cond}
-use lib.Dec.{leb, ltb, eqb}
+use lib.Dec.{leb, ltb}
 use Rattle.spec.specs.declared.Spec.{Spec}
-use Rattle.spec.specs.Limits.{specNumber}
-use Rattle.feasibility.specs.declared.Conditions.{Conditions}
-use Rattle.feasibility.specs.declared.Conditions.the-variants.{AllHold, FirstFailing}
-use Rattle.feasibility.specs.declared.Family.{Family}
-use Rattle.feasibility.specs.declared.Family.the-variants.{MinimumDemand, MaximumSupply}
-use Rattle.feasibility.specs.declared.Rates.{Rates}
-use Rattle.feasibility.specs.declared.BothRates.{BothRates}
-use Rattle.feasibility.specs.declared.BothRates.the-variants.{Both, Missing}
-use Rattle.feasibility.specs.declared.Scheduled.{Scheduled}
-use Rattle.feasibility.specs.declared.Scheduled.the-variants.{Found, Refused as NoneFound}
+use Rattle.spec.specs.declared.Rates.{Rates}
+use Rattle.spec.specs.Rates.{started, ifRates}
+use Rattle.consistency.specs.declared.Consistency.{Consistency}
+use Rattle.consistency.specs.declared.Consistency.the-variants.{Consistent, Refused as NotJudged, Inconsistent as FailsCondition}
+use Rattle.consistency.specs.Consistency.{consistencyOf}
+use Rattle.families.specs.declared.Family.{Family}
+use Rattle.families.specs.declared.Family.the-variants.{MinimumDemand, MaximumSupply}
+use Rattle.families.specs.declared.Scheduled.{Scheduled}
+use Rattle.families.specs.declared.Scheduled.the-variants.{Found, Refused as NoneFound}
+use Rattle.families.specs.Families.{scheduleFor}
+use Rattle.plan.specs.declared.Plan.{Plan}
 use Rattle.feasibility.specs.declared.Tested.{Tested}
 use Rattle.feasibility.specs.declared.Tested.the-variants.{Passed, Refused, Inconsistent}
-use Rattle.feasibility.specs.Consistency.{conditionsOf}
-use Rattle.feasibility.specs.Families.{bothRates, scheduled}
 
 -- "If R ≥ P, take the minimum demand schedule .. Otherwise take the maximum supply schedule"
 unfoldable pub familyOf : Rates → Family
@@ -48,28 +48,36 @@ lastCount MaximumSupply q = q .b
 
 -- "over all k": `taken-best` of proofs/Best.antt says that it is the best of every k without upper end
 unfoldable pub taken : Family → Spec → Rates → Scheduled
-taken f s q = takenUpTo f (scheduled f s q) (lastCount f q)
+taken f s q = takenUpTo f (scheduleFor f s) (lastCount f q)
 
 -- "it passes if that is at most B"; "it passes if that is at least L"
-unfoldable pub passes : Family → Rates → ℕ → Bool
-passes MinimumDemand q v = leb v (q .b)
-passes MaximumSupply q v = leb (q .l) v
+unfoldable pub figurePasses : Family → Rates → ℕ → Bool
+figurePasses MinimumDemand q v = leb v (q .b)
+figurePasses MaximumSupply q v = leb (q .l) v
 
 -- "9 the schedule taken does not pass"
 unfoldable pub testTaken : Family → Rates → Scheduled → Tested
 testTaken f q (NoneFound n) = Refused n
-testTaken f q (Found plan v) = cond (passes f q v) (Passed plan v) (Refused 9)
+testTaken f q (Found plan v) = cond (figurePasses f q v) (Passed plan v) (Refused 9)
 
--- "7 inconsistent, and this refusal carries the condition that failed first", then 8 and 9
-unfoldable pub testConditions : Conditions → Spec → Rates → Tested
-testConditions AllHold s q = testTaken (familyOf q) q (taken (familyOf q) s q)
-testConditions (FirstFailing c) s q = Inconsistent c
+-- "7 inconsistent, and this refusal carries the condition that failed first", then 8 and 9. (3 and 4 were told before.)
+unfoldable pub testConsistent : Consistency → Spec → Rates → Tested
+testConsistent Consistent s q = testTaken (familyOf q) q (taken (familyOf q) s q)
+testConsistent (FailsCondition c) s q = Inconsistent c
+testConsistent (NotJudged n) s q = Refused n
 
--- "5 a rate is absent", then 7 to 9
-unfoldable pub testRates : BothRates → Spec → Tested
-testRates Missing s = Refused 5
-testRates (Both q) s = testConditions (conditionsOf s) s q
-
--- 3 and 4, then 5 and 7 to 9
+-- 3, 4 and "5 a rate is absent", then 7 to 9
 unfoldable pub testOf : Spec → Tested
-testOf s = cond (eqb (specNumber s) 0) (testRates (bothRates s) s) (Refused (specNumber s))
+testOf s = ifRates (started s) (λ q. testConsistent (consistencyOf s) s q) Refused
+
+-- v is as good a figure as w: "the least required supply", "the greatest available supply"
+abbrev pub AsGood : Family → ℕ → ℕ → Type 0
+AsGood MinimumDemand v w = v ≤ w
+AsGood MaximumSupply v w = w ≤ v
+
+-- The plan is the family's schedule with its number of reports. No k at all has a schedule with a better figure, and none smaller
+-- has one as good.
+pub record BestOfAll (f : Family) (s : Spec) (plan : Plan) (v : ℕ) : Type 0 where
+  pub schedule : scheduleFor f s (plan .count) ≡ Found plan v
+  pub best : (k : ℕ) (other : Plan) (w : ℕ) → scheduleFor f s k ≡ Found other w → AsGood f v w
+  pub first : (k : ℕ) (other : Plan) → scheduleFor f s k ≡ Found other v → plan .count ≤ k

@@ -1,4 +1,2 @@
-pub mod Answers
+pub mod GivenSpec
 pub mod VerdictCases
-pub mod Readings
-pub mod Demands

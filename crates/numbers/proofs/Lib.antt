@@ -1,2 +1,4 @@
+pub mod Cases
 pub mod Ceilings
 pub mod All
+pub mod Negated

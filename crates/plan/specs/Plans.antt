@@ -54,3 +54,7 @@ kindRun Even k π δ = record { size = evenSize k δ; gap = λ i. π / k }
 -- "That of a plan has, for every i without upper end, report i of the size that its kind gives, at the sum of the first i gaps."
 unfoldable pub run : Plan → Schedule
 run p = kindRun (p .kind) (p .count) (p .period) (p .total)
+
+-- a plan by its numbers
+abbrev pub planOf : Kind → ℕ → ℕ → ℕ → Plan
+planOf kind k π δ = record { kind = kind; count = k; period = π; total = δ }

@@ -2,6 +2,7 @@
 use Prim.Native.Nat.{ℕ, _≤_}
 use native.Mathlib.Omega.{arith}
 use mathlib.Core.Path.{_≡_, refl, _∙_, sym, ap}
+use mathlib.Core.Logic.{_⊎_, inl, inr}
 use mathlib.Core.Bool.{Bool, true, false, cond}
 use lib.Dec.{eqb}
 use borrow.Author.Tests.{eq-eqb, ne-eqb, eqb-true, eqb-false}
@@ -45,3 +46,19 @@ module _ {A : Type 0} (s : Spec) (goOn : A) (tell : ℕ → A) where
 pub started-both : (s : Spec) (q : Rates) → started s ≡ Both q → IsAccepted s × (bothRates s ≡ Both q)
 unfolding started
 started-both s q e = went-on s (bothRates s) Refused (Both q) (λ n l m h. absurd (let z : _≡_ {A = ℕ} 0 1 = cc in omega arith)) e
+
+pub started-at : (s : Spec) (q : Rates) → IsAccepted s → bothRates s ≡ Both q → started s ≡ Both q
+unfolding started
+started-at s q a e = goes-on s (bothRates s) Refused a ∙ e
+
+pub started-not : (s : Spec) → ¬ IsAccepted s → started s ≡ Refused (specNumber s)
+unfolding started
+started-not s a = stops s (bothRates s) Refused a
+
+-- a specification is accepted or not
+pub accepted-or : (s : Spec) → IsAccepted s ⊎ (¬ IsAccepted s)
+accepted-or s = pick (eqb (specNumber s) 0) refl
+  where
+    pick : (b : Bool) → eqb (specNumber s) 0 ≡ b → IsAccepted s ⊎ (¬ IsAccepted s)
+    pick true t = inl (eqb-true (specNumber s) 0 t)
+    pick false t = inr (eqb-false (specNumber s) 0 t)

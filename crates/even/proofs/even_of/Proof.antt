@@ -1,6 +1,5 @@
 -- An accepted specification is planned, and the number of any other is handed on.
 use borrow.Author.Needs.{needs}
-use Rattle.even.proofs.Cases.{not-read, was-read}
 use Rattle.even.proofs.even_of.Statement.{statement}
 use Rattle.even.proofs.even_of.Tie as tie
 
@@ -17,15 +16,13 @@ read-number-requires : tie.Need-read-number-requires
 read-number-requires c κs = search needs
 
 returns : tie.Need-returns
-returns c =
-    not-read (c .before .before .before .read-spec .ensures) (c .before .enum-told .given .1) (c .read-number .ensures)
+returns c = rw (c .read-number .ensures, ← c .before .before .before .read-spec .ensures, c .before .enum-told .given .1)
 
 even-plan-requires : tie.Need-even-plan-requires
 even-plan-requires c κs = search needs
 
 returns-2 : tie.Need-returns-2
-returns-2 c =
-    was-read (c .before .before .before .before .read-spec .ensures) (c .before .before .read .given .1) (c .even-plan .ensures)
+returns-2 c = rw (c .even-plan .ensures, ← c .before .before .before .before .read-spec .ensures, c .before .before .read .given .1)
 
 pub even-of-spec : {M : Type 1} → statement M
 even-of-spec =

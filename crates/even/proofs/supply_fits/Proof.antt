@@ -1,6 +1,7 @@
 -- Both products fit 64 bits: n is at most 17 bits wide and δ 32, m and B have 16 each.
 use Rattle.even.specs.Even.{supplyFits}
 use Rattle.spec.proofs.Products.{fits-mul}
+use Rattle.numbers.proofs.Ceilings.{ceil-bound}
 use borrow.Author.Needs.{needs}
 use Rattle.even.proofs.supply_fits.Statement.{statement}
 use Rattle.even.proofs.supply_fits.Tie as tie
@@ -11,11 +12,14 @@ enum-told c = search needs
 enum-known-supply : tie.Need-enum-known-supply
 enum-known-supply c = search needs
 
-most-in-requires : tie.Need-most-in-requires
-most-in-requires c κs = search needs
+cast-ceil-div : tie.Need-cast-ceil-div
+cast-ceil-div c = search needs
+
+ceil-div-requires : tie.Need-ceil-div-requires
+ceil-div-requires c κs = search needs
 
 mul-result : tie.Need-mul-result
-mul-result c = record { fits = fits-mul 64 131070 4294836225 tt (search needs) (search needs) }
+mul-result c = record { fits = fits-mul 64 131070 4294836225 tt (ceil-bound 65535 65535 (c .ceil-div .ensures) (search needs) (search needs)) (search needs) }
 
 cast-result : tie.Need-cast-result
 cast-result c = search needs
@@ -37,7 +41,8 @@ supply-fits-spec =
     (tie.spec
     enum-told
     enum-known-supply
-    most-in-requires
+    cast-ceil-div
+    ceil-div-requires
     mul-result
     cast-result
     mul-result-2

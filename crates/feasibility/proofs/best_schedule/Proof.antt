@@ -4,18 +4,18 @@ use borrow.Author.Needs.{needs}
 use native.Mathlib.Omega.{arith}
 use mathlib.Core.Path.{_≡_}
 use Prim.Native.Nat.{_+_, _-_, _≤_}
-use Rattle.feasibility.proofs.Plans.{known}
-use Rattle.feasibility.specs.Families.{scheduled}
+use Rattle.spec.proofs.KnownRates.{known}
+use Rattle.families.specs.Families.{scheduleFor}
 use Rattle.feasibility.specs.Test.{takenUpTo}
 use Rattle.feasibility.proofs.Taking.{starts, some-first, turns, ends}
 use Rattle.feasibility.proofs.best_schedule.Statement.{statement}
 use Rattle.feasibility.proofs.best_schedule.Tie as tie
 
 abbrev Inv-loop : tie.InvT-loop
-Inv-loop f s q last k₀ best₀ k best = (best ≡ takenUpTo f (scheduled f s q) (k - 1)) × (1 ≤ k)
+Inv-loop f s last k₀ best₀ k best = (best ≡ takenUpTo f (scheduleFor f s) (k - 1)) × (1 ≤ k)
 
 abbrev μ-loop : tie.MeasureT-loop
-μ-loop f s q last k₀ best₀ k best = last + 1 - k
+μ-loop f s last k₀ best₀ k best = last + 1 - k
 
 counts-of-requires : tie.Need-counts-of-requires Inv-loop μ-loop
 counts-of-requires c κs = c .pre
@@ -25,8 +25,8 @@ loop-holds c =
     let n = known _ _ (c .before .pre .0) (c .before .pre .1) in
     (starts _ _ n _ (c .counts-of .ensures .0), some-first _ _ n _ (c .counts-of .ensures .0))
 
-scheduled-with-requires : tie.Need-scheduled-with-requires Inv-loop μ-loop
-scheduled-with-requires c κs = c .before .before .before .pre
+schedule-for-requires : tie.Need-schedule-for-requires Inv-loop μ-loop
+schedule-for-requires c κs = search needs
 
 better-of-requires : tie.Need-better-of-requires Inv-loop μ-loop
 better-of-requires c κs = search needs
@@ -42,7 +42,7 @@ loop-again c =
     let loop = c .before .before .before in
     let start = loop .before .before in
     let n = known _ _ (start .pre .0) (start .pre .1) in (
-      rw (c .better-of .ensures, c .before .scheduled-with .ensures)
+      rw (c .better-of .ensures, c .before .schedule-for .ensures)
           (turns _ _ n _ (loop .before .counts-of .ensures .0) _ (loop .loop .inv .1) (loop .loop .inv .0)),
       omega arith,
     )
@@ -61,7 +61,7 @@ best-schedule-spec =
     μ-loop
     counts-of-requires
     loop-holds
-    scheduled-with-requires
+    schedule-for-requires
     better-of-requires
     add-k
     loop-less

@@ -1,10 +1,11 @@
 -- Both ends are quotients, and `exists-iff` says that exactly the numbers from one to the other have a schedule.
 use native.Mathlib.Omega.{arith}
-use Rattle.feasibility.proofs.Plans.{known}
+use Rattle.spec.proofs.KnownRates.{known}
 use native.Mathlib.Nat.{div-le-self}
 use Rattle.spec.proofs.Facts.{facts}
+use Rattle.numbers.proofs.Ceilings.{ceil-most}
 use Rattle.feasibility.proofs.Taking.{firstWith, lastWith, exists-iff}
-use Rattle.feasibility.specs.declared.Family.the-variants.{MinimumDemand, MaximumSupply}
+use Rattle.families.specs.declared.Family.the-variants.{MinimumDemand, MaximumSupply}
 use borrow.Author.Needs.{needs}
 use Rattle.feasibility.proofs.counts_of.Statement.{statement}
 use Rattle.feasibility.proofs.counts_of.Tie as tie
@@ -19,10 +20,12 @@ cast-ceil-div-2 : tie.Need-cast-ceil-div-2
 cast-ceil-div-2 c = search needs
 
 ceil-div-requires : tie.Need-ceil-div-requires
-ceil-div-requires c κs = let t = facts _ (c .before .before .before .before .pre .0) in omega arith
+ceil-div-requires c κs = search needs
 
 cast-t8 : tie.Need-cast-t8
-cast-t8 c = record { fits = omega arith }
+cast-t8 c =
+    let start = c .before .before .before .before .before in
+    record { fits = omega (arith, ceil-most (start .args .q .l) (start .args .s .dmax)) }
 
 cast-t9 : tie.Need-cast-t9
 cast-t9 c = search needs
@@ -43,10 +46,12 @@ cast-ceil-div-4 : tie.Need-cast-ceil-div-4
 cast-ceil-div-4 c = search needs
 
 ceil-div-requires-2 : tie.Need-ceil-div-requires-2
-ceil-div-requires-2 c κs = let t = facts _ (c .before .before .before .before .pre .0) in omega arith
+ceil-div-requires-2 c κs = search needs
 
 cast-t15 : tie.Need-cast-t15
-cast-t15 c = record { fits = omega arith }
+cast-t15 c =
+    let start = c .before .before .before .before .before in
+    record { fits = omega (arith, ceil-most (start .args .q .r) (start .args .s .smax)) }
 
 cast-t16 : tie.Need-cast-t16
 cast-t16 c = search needs
@@ -62,7 +67,7 @@ unfolding firstWith lastWith
 returns c =
     let start = c .before .before .before .before .before .before .before in
     let n = known _ _ (start .pre .0) (start .pre .1) in
-    rw (c .before .before .before .before .before .enum-told .given .1, c .before .before .ceil-div .ensures .0)
+    rw (c .before .before .before .before .before .enum-told .given .1, c .before .before .ceil-div .ensures)
     (λ k. exists-iff _ _ n MinimumDemand k, omega (arith, div-le-self (start .args .q .p) (start .args .s .smin)))
 
 returns-2 : tie.Need-returns-2
@@ -70,7 +75,7 @@ unfolding firstWith lastWith
 returns-2 c =
     let start = c .before .before .before .before .before .before .before in
     let n = known _ _ (start .pre .0) (start .pre .1) in
-    rw (c .before .before .before .before .before .enum-told2 .given .1, c .before .before .ceil-div2 .ensures .0)
+    rw (c .before .before .before .before .before .enum-told2 .given .1, c .before .before .ceil-div2 .ensures)
     (λ k. exists-iff _ _ n MaximumSupply k, omega (arith, div-le-self (start .args .q .b) (start .args .s .dmin)))
 
 pub counts-of-spec : {M : Type 1} → statement M

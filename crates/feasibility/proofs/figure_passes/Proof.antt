@@ -1,5 +1,5 @@
 -- By family.
-use Rattle.feasibility.specs.Test.{passes}
+use Rattle.feasibility.specs.Test.{figurePasses}
 use borrow.Author.Needs.{needs}
 use Rattle.feasibility.proofs.figure_passes.Statement.{statement}
 use Rattle.feasibility.proofs.figure_passes.Tie as tie
@@ -17,11 +17,11 @@ cast-result-2 : tie.Need-cast-result-2
 cast-result-2 c = search needs
 
 returns : tie.Need-returns
-unfolding passes
+unfolding figurePasses
 returns c = rw (c .before .enum-told .given .1)
 
 returns-2 : tie.Need-returns-2
-unfolding passes
+unfolding figurePasses
 returns-2 c = rw (c .before .enum-told2 .given .1)
 
 pub figure-passes-spec : {M : Type 1} → statement M

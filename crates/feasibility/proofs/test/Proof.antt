@@ -1,53 +1,32 @@
--- The refusals in document 01's order: 3 and 4 by `spec_number`, 5 where a rate is missing, 7 with the condition; then what is taken is
--- tested. Each return rewrites the definition by what the calls before it gave.
+-- The refusals in document 01's order: 3, 4 and 5 by `started`, 7 with the condition; then what is taken is tested. Each return rewrites
+-- the definition by what the calls before it gave.
 use mathlib.Core.Path.{sym, _∙_}
-use borrow.Author.Tests.{eq-eqb, ne-eqb}
-use Rattle.feasibility.specs.Test.{testConditions, testRates, testOf}
+use Rattle.spec.proofs.GoingOn.{started-both}
+use Rattle.feasibility.specs.Test.{testConsistent, testOf}
 use borrow.Author.Needs.{needs}
 use Rattle.feasibility.proofs.test.Statement.{statement}
 use Rattle.feasibility.proofs.test.Tie as tie
 
-spec-number-requires : tie.Need-spec-number-requires
-spec-number-requires c κs = search needs
+started-requires : tie.Need-started-requires
+started-requires c κs = search needs
 
-returns : tie.Need-returns
-unfolding testOf
-returns c = rw (← c .before .spec-number .ensures, ne-eqb _ 0 (c .if1 .taken))
-
-both-rates-requires : tie.Need-both-rates-requires
-both-rates-requires c κs = search needs
-
-enum-known-rates : tie.Need-enum-known-rates
-enum-known-rates c = search needs
+enum-known-start : tie.Need-enum-known-start
+enum-known-start c = search needs
 
 enum-told : tie.Need-enum-told
 enum-told c = search needs
 
-returns-2 : tie.Need-returns-2
-unfolding testOf testRates
-returns-2 c =
-    let start = c .before .before .before in
-    rw (← start .before .spec-number .ensures, eq-eqb _ 0 (start .if1 .left), ← c .before .before .both-rates .ensures, c .enum-told .given .1)
+rates-number-requires : tie.Need-rates-number-requires
+rates-number-requires c κs = search needs
 
-conditions-of-requires : tie.Need-conditions-of-requires
-conditions-of-requires c κs = let start = c .before .before .before .before in sym (start .before .spec-number .ensures) ∙ start .if1 .left
+returns : tie.Need-returns
+unfolding testOf
+returns c =
+    let found = c .before in
+    rw (c .rates-number .ensures, ← found .before .before .started .ensures, found .enum-told .given .1)
 
-enum-known-conditions : tie.Need-enum-known-conditions
-enum-known-conditions c = search needs
-
-returns-3 : tie.Need-returns-3
-unfolding testOf testRates testConditions
-returns-3 c =
-    let there = c .before .before .before .before .before in
-    let start = there .before .before .before in
-    rw (
-      ← start .before .spec-number .ensures,
-      eq-eqb _ 0 (start .if1 .left),
-      ← there .before .before .both-rates .ensures,
-      there .rates .given .1,
-      ← c .before .before .before .conditions-of .ensures,
-      c .before .conditions .given .1,
-    )
+consistency-of-requires : tie.Need-consistency-of-requires
+consistency-of-requires c κs = search needs
 
 enum-told-2 : tie.Need-enum-told-2
 enum-told-2 c = search needs
@@ -58,44 +37,62 @@ family-of-requires c κs = search needs
 best-schedule-requires : tie.Need-best-schedule-requires
 best-schedule-requires c κs =
     let there = c .before .before .before .before .before in
-    let start = there .before .before .before in
-    (sym (start .before .spec-number .ensures) ∙ start .if1 .left, sym (there .before .before .both-rates .ensures) ∙ there .rates .given .1)
+    started-both _ _ (sym (there .before .before .started .ensures) ∙ there .start .given .1)
 
 test-taken-requires : tie.Need-test-taken-requires
 test-taken-requires c κs = search needs
 
-returns-4 : tie.Need-returns-4
-unfolding testOf testRates testConditions
-returns-4 c =
-    let there = c .before .before .before .before .before .before .before in
-    let start = there .before .before .before in
+enum-known-c : tie.Need-enum-known-c
+enum-known-c c = search needs
+
+enum-known-n : tie.Need-enum-known-n
+enum-known-n c = search needs
+
+returns-2 : tie.Need-returns-2
+unfolding testOf testConsistent
+returns-2 c =
+    let told = c .before .before .before in
+    let there = told .before .before .before .before in
     rw (
       c .test-taken .ensures,
       c .before .best-schedule .ensures,
       c .before .before .family-of .ensures,
-      ← start .before .spec-number .ensures,
-      eq-eqb _ 0 (start .if1 .left),
-      ← there .before .before .both-rates .ensures,
-      there .rates .given .1,
-      ← c .before .before .before .before .before .conditions-of .ensures,
-      c .before .before .before .enum-told2 .given .1,
+      ← there .before .before .started .ensures,
+      there .start .given .1,
+      ← told .before .before .consistency-of .ensures,
+      told .enum-told2 .given .1,
     )
+
+returns-3 : tie.Need-returns-3
+unfolding testOf testConsistent
+returns-3 c =
+    let judged = c .before .before .before in
+    let there = judged .before .before in
+    rw (← there .before .before .started .ensures, there .start .given .1, ← judged .consistency-of .ensures, c .before .c .given .1)
+
+returns-4 : tie.Need-returns-4
+unfolding testOf testConsistent
+returns-4 c =
+    let judged = c .before .before .before in
+    let there = judged .before .before in
+    rw (← there .before .before .started .ensures, there .start .given .1, ← judged .consistency-of .ensures, c .before .n .given .1)
 
 pub test-spec : {M : Type 1} → statement M
 test-spec =
     tie.close
     (tie.spec
-    spec-number-requires
-    returns
-    both-rates-requires
-    enum-known-rates
+    started-requires
+    enum-known-start
     enum-told
-    returns-2
-    conditions-of-requires
-    enum-known-conditions
-    returns-3
+    rates-number-requires
+    returns
+    consistency-of-requires
     enum-told-2
     family-of-requires
     best-schedule-requires
     test-taken-requires
+    enum-known-c
+    enum-known-n
+    returns-2
+    returns-3
     returns-4)

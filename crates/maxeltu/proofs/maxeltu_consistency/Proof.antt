@@ -1,9 +1,10 @@
 -- The specification is read first; then number and places are those of the operation's answer.
 use mathlib.Core.Path.{refl}
 use Rattle.maxeltu.specs.Calls.{consistencyCall}
-use Rattle.maxeltu.proofs.Answers.{after-refusal, not-read, was-read}
-use Rattle.feasibility.specs.Answers.{consistencyAnswer}
-use Rattle.feasibility.specs.Consistency.{consistencyOf}
+use Rattle.answers.proofs.Places.{after-refusal}
+use Rattle.maxeltu.proofs.GivenSpec.{not-read, was-read}
+use Rattle.answers.specs.Answers.{consistencyAnswer}
+use Rattle.consistency.specs.Consistency.{consistencyOf}
 use borrow.Author.Needs.{needs}
 use Rattle.maxeltu.proofs.maxeltu_consistency.Statement.{statement}
 use Rattle.maxeltu.proofs.maxeltu_consistency.Tie as tie

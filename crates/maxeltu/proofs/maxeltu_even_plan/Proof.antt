@@ -1,7 +1,9 @@
 -- The specification is read first; then the places are those of the even plan's answer.
 use mathlib.Core.Path.{refl}
-use Rattle.maxeltu.specs.Calls.{evenCall, evenAnswer}
-use Rattle.maxeltu.proofs.Answers.{after-refusal, not-read, was-read}
+use Rattle.maxeltu.specs.Calls.{evenCall}
+use Rattle.answers.specs.Answers.{evenAnswer}
+use Rattle.answers.proofs.Places.{after-refusal}
+use Rattle.maxeltu.proofs.GivenSpec.{not-read, was-read}
 use Rattle.even.specs.Even.{evenPlan}
 use borrow.Author.Needs.{needs}
 use Rattle.maxeltu.proofs.maxeltu_even_plan.Statement.{statement}

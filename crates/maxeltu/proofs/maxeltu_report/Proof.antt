@@ -2,13 +2,10 @@
 use mathlib.Core.Path.{refl}
 use borrow.Author.Tests.{eq-eqb, ne-eqb}
 use Rattle.maxeltu.specs.Calls.{reportCall}
-use Rattle.maxeltu.proofs.Answers.{after-refusal}
+use Rattle.answers.proofs.Places.{after-refusal}
 use borrow.Author.Needs.{needs}
 use Rattle.maxeltu.proofs.maxeltu_report.Statement.{statement}
 use Rattle.maxeltu.proofs.maxeltu_report.Tie as tie
-
-plan-of-requires : tie.Need-plan-of-requires
-plan-of-requires c κs = search needs
 
 report-requires : tie.Need-report-requires
 report-requires c κs = search needs
@@ -18,10 +15,7 @@ report-answer-requires c κs = search needs
 
 returns : tie.Need-returns
 unfolding reportCall
-returns c = rw (eq-eqb _ _ (c .before .before .before .before .before .if1 .taken), ← c .before .before .before .before .plan-of .ensures, ← c .before .before .before .report .ensures) (c .report-answer .ensures)
-
-plan-of-requires-2 : tie.Need-plan-of-requires-2
-plan-of-requires-2 c κs = search needs
+returns c = rw (eq-eqb _ _ (c .before .before .before .before .if1 .taken), ← c .before .before .before .report .ensures) (c .report-answer .ensures)
 
 report-requires-2 : tie.Need-report-requires-2
 report-requires-2 c κs = search needs
@@ -31,7 +25,7 @@ report-answer-requires-2 c κs = search needs
 
 returns-2 : tie.Need-returns-2
 unfolding reportCall
-returns-2 c = rw (ne-eqb _ _ (c .before .before .before .before .before .before .if1 .left), eq-eqb _ _ (c .before .before .before .before .before .if2 .taken), ← c .before .before .before .before .plan-of2 .ensures, ← c .before .before .before .report2 .ensures) (c .report-answer2 .ensures)
+returns-2 c = rw (ne-eqb _ _ (c .before .before .before .before .before .if1 .left), eq-eqb _ _ (c .before .before .before .before .if2 .taken), ← c .before .before .before .report2 .ensures) (c .report-answer2 .ensures)
 
 returns-3 : tie.Need-returns-3
 unfolding reportCall
@@ -41,11 +35,9 @@ pub maxeltu-report-spec : {M : Type 1} → statement M
 maxeltu-report-spec =
     tie.close
     (tie.spec
-    plan-of-requires
     report-requires
     report-answer-requires
     returns
-    plan-of-requires-2
     report-requires-2
     report-answer-requires-2
     returns-2

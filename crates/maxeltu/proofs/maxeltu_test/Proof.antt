@@ -1,8 +1,9 @@
 -- The specification is read first; then number and places are those of the operation's answer.
 use mathlib.Core.Path.{refl}
 use Rattle.maxeltu.specs.Calls.{testCall}
-use Rattle.maxeltu.proofs.Answers.{after-refusal, not-read, was-read}
-use Rattle.feasibility.specs.Answers.{testedAnswer}
+use Rattle.answers.proofs.Places.{after-refusal}
+use Rattle.maxeltu.proofs.GivenSpec.{not-read, was-read}
+use Rattle.answers.specs.Answers.{testedAnswer}
 use Rattle.feasibility.specs.Test.{testOf}
 use borrow.Author.Needs.{needs}
 use Rattle.maxeltu.proofs.maxeltu_test.Statement.{statement}

@@ -1,0 +1,109 @@
+-- All three demands, each from the crate that proves it. New here are the bytes of any length, and the loader's call: by what the two
+-- files are read to, its number is 0 only where both are read and the check's number is 0.
+use Prim.Native.Nat.{ℕ, _≤_, _<_}
+use native.Mathlib.Omega.{arith}
+use mathlib.Core.Path.{_≡_, refl}
+use mathlib.Core.Logic.{_⊎_, inl, inr, ⊎-elim}
+use mathlib.Core.Bool.{true}
+use mathlib.Core.List.{List}
+use lib.ListN.{length}
+use borrow.Author.Tests.{ne-eqb}
+use Rattle.spec.specs.declared.Spec.{Spec}
+use Rattle.spec.specs.declared.SpecRead.the-variants.{Accepted}
+use Rattle.spec.specs.Limits.{IsAccepted}
+use Rattle.spec.specs.File.{readSpec}
+use Rattle.spec.proofs.AnyBytes.{SpecIsRead, spec-is-read}
+use Rattle.schedule.specs.Schedules.{minute}
+use Rattle.schedule.specs.Rules.{Obeys}
+use Rattle.plan.specs.declared.Plan.{Plan}
+use Rattle.plan.specs.declared.Reported.the-variants.{At}
+use Rattle.plan.specs.Plans.{proper, run}
+use Rattle.plan.specs.Reports.{reportOf}
+use Rattle.schedule.proofs.StretchSum.{stretch-is-sum}
+use Rattle.families.proofs.Schedules.{required-is-most, available-is-least}
+use Rattle.feasibility.proofs.Theorems.{test-passes, test-sound}
+use Rattle.even.proofs.EvenPlans.{even-plan-obeys, even-plan-longest, even-plan-refused}
+use Rattle.pairs.specs.declared.Pair.{Pair}
+use Rattle.cycle.specs.Cycles.{cycleRun}
+use Rattle.cycle.proofs.CyclesPassed.{passed-obeys}
+use Rattle.cycle.proofs.FlatForms.{same-number}
+use Rattle.cyclefile.specs.File.{CycleRead, pairs, refused, readCycle, writeNumber, placesAfter, bytesAfter}
+use Rattle.cyclefile.proofs.RoundTrip.{reads-back, writes-back, reads-cycles}
+use Rattle.cyclefile.proofs.WrittenBytes.{writes-bytes}
+use Rattle.cyclefile.proofs.PairForms.{flat-writes-same}
+use Rattle.maxeltu.specs.Verdict.{verdictRead, verdictOf}
+use Rattle.demands.specs.Demands.{Demands}
+use Rattle.demands.proofs.Readings.{CycleRefusal, cycle-numbered}
+
+-- a cycle's file, by what it is read to
+cycle-is-read : (places : ℕ) (file : List ℕ) (r : CycleRead) → readCycle places file ≡ r
+    → ((c : List Pair) × ((readCycle places file ≡ pairs c) × ((1 ≤ length c) × ((length c ≤ 512) × (length c ≤ places)))))
+    ⊎ ((n : ℕ) × ((readCycle places file ≡ refused n) × CycleRefusal n))
+cycle-is-read places file (pairs c) e = let h = reads-cycles places file c e in inl (c, (e, (h .0, (h .1, h .2))))
+cycle-is-read places file (refused n) e = inr (n, (e, cycle-numbered places file n e))
+
+report-is : (p : Plan) (i : ℕ) → proper p ≡ true → reportOf p i ≡ At (minute (run p) i) (run p .size i)
+unfolding reportOf
+report-is p i ok = rw ok
+
+list-kept : (places n : ℕ) (file : List ℕ) (held : List Pair) → readCycle places file ≡ refused n → placesAfter (readCycle places file) held ≡ held
+list-kept places n file held e = rw e
+
+bytes-kept : (c : List Pair) (held : List ℕ) → 0 < writeNumber (length held) c → bytesAfter c held ≡ held
+bytes-kept c held h = rw (ne-eqb (writeNumber (length held) c) 0 (λ z. omega arith))
+
+-- no number of a cycle's file is 0
+not-zero : (n : ℕ) → CycleRefusal n → ¬ (n ≡ 0)
+not-zero n h z = ⊎-elim (λ e. omega arith) (λ e. omega arith) h
+
+-- The loader's call.
+Loaded : List ℕ → List ℕ → Type 0
+Loaded spec cycle = (s : Spec) × ((c : List Pair) × ((readSpec spec ≡ Accepted s) × ((readCycle 512 cycle ≡ pairs c) × Obeys s (cycleRun c))))
+
+module _ (spec cycle : List ℕ) where
+  with-spec : (s : Spec) → readSpec spec ≡ Accepted s → IsAccepted s → (r : CycleRead) → readCycle 512 cycle ≡ r → verdictOf spec cycle ≡ 0 → Loaded spec cycle
+  unfolding verdictOf verdictRead Loaded
+  with-spec s a ok (pairs c) e z =
+      let n = reads-cycles 512 cycle c e in
+      (s, (c, (a, (e, passed-obeys s c ok (n .0) (n .1) .0 (rw (a, e) at z)))))
+  with-spec s a ok (refused n) e z = absurd (not-zero n (cycle-numbered 512 cycle n e) (rw (a, e) at z))
+
+  zero-loaded : SpecIsRead (readSpec spec) → verdictOf spec cycle ≡ 0 → Loaded spec cycle
+  unfolding verdictOf verdictRead
+  zero-loaded (inl (s, (a, ok))) z = with-spec s a ok (readCycle 512 cycle) refl z
+  zero-loaded (inr (n, (a, bounds))) z = absurd (let e : n ≡ 0 = rw a at z in omega arith)
+
+  accepted : (s : Spec) → readSpec spec ≡ Accepted s → SpecIsRead (readSpec spec) → IsAccepted s
+  accepted s a (inl (t, (b, ok))) = let e : s ≡ t = cc in rw e ok
+  accepted s a (inr (n, (b, bounds))) = absurd (let z : _≡_ {A = ℕ} 0 1 = cc in omega arith)
+
+  loaded-zero : Loaded spec cycle → verdictOf spec cycle ≡ 0
+  unfolding verdictOf verdictRead Loaded
+  loaded-zero (s, (c, (a, (e, o)))) =
+      let n = reads-cycles 512 cycle c e in
+      rw (a, e) (passed-obeys s c (accepted s a (spec-is-read spec)) (n .0) (n .1) .1 o)
+
+pub demands : Demands
+unfolding Loaded
+demands = record {
+  specification-read = spec-is-read;
+  cycle-read = λ places file. cycle-is-read places file (readCycle places file) refl;
+  refused-list-kept = list-kept;
+  refused-bytes-kept = bytes-kept;
+  stretch-sum = stretch-is-sum;
+  required-supply = required-is-most;
+  available-supply = available-is-least;
+  test-best = λ s q p v rates e. test-passes s q p v rates .0 e .1;
+  every-report = report-is;
+  reads-back = reads-back;
+  written-bytes = writes-bytes;
+  writes-back = writes-back;
+  flat-checked = same-number;
+  flat-written = flat-writes-same;
+  cycle-passed = passed-obeys;
+  test-obeys = test-sound;
+  even-obeys = even-plan-obeys;
+  even-longest = even-plan-longest;
+  even-refused = even-plan-refused;
+  verdict-exact = λ spec cycle. (zero-loaded spec cycle (spec-is-read spec), loaded-zero spec cycle);
+}

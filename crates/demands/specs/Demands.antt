@@ -1,0 +1,88 @@
+-- The three demands as theorems, for every specification, cycle, plan and file. That each function gives what its definition says is
+-- its own contract; here is what the definitions promise. `demands` of proofs/Demands.antt proves all of it.
+use Prim.Native.Nat.{ℕ, _/_, _≤_, _<_}
+use mathlib.Core.Path.{_≡_}
+use mathlib.Core.Logic.{_↔_, _⊎_}
+use mathlib.Core.Bool.{true}
+use mathlib.Core.List.{List}
+use lib.ListN.{length, getD}
+use Rattle.spec.specs.declared.Spec.{Spec}
+use Rattle.spec.specs.declared.Rates.{Rates}
+use Rattle.spec.specs.declared.BothRates.the-variants.{Both}
+use Rattle.spec.specs.Rates.{bothRates}
+use Rattle.spec.specs.declared.SpecRead.the-variants.{Accepted, Refused as NotRead}
+use Rattle.spec.specs.Limits.{IsAccepted}
+use Rattle.spec.specs.File.{readSpec}
+use Rattle.schedule.specs.Schedules.{minute, stretch, StretchIsSum}
+use Rattle.schedule.specs.Rules.{Obeys}
+use Rattle.plan.specs.declared.Plan.{Plan}
+use Rattle.plan.specs.declared.Reported.the-variants.{At}
+use Rattle.plan.specs.Plans.{proper, run}
+use Rattle.plan.specs.Reports.{reportOf}
+use Rattle.families.specs.declared.Family.the-variants.{MinimumDemand, MaximumSupply}
+use Rattle.families.specs.declared.Scheduled.the-variants.{Found as ScheduleOf}
+use Rattle.families.specs.Families.{scheduleFor}
+use Rattle.feasibility.specs.declared.Tested.the-variants.{Passed}
+use Rattle.feasibility.specs.Test.{familyOf, testOf, BestOfAll}
+use Rattle.even.specs.declared.EvenPlan.the-variants.{Found, Refused}
+use Rattle.even.specs.Even.{evenPlan, evenly}
+use Rattle.pairs.specs.declared.Pair.{Pair}
+use Rattle.cycle.specs.Cycles.{cycleRun}
+use Rattle.cycle.specs.Check.{checkNumber}
+use Rattle.cycle.specs.Statements.{FlatSameNumber}
+use Rattle.cyclefile.specs.File.{pairs, refused, cycleBytes, readCycle, writeNumber, placesAfter, bytesAfter}
+use Rattle.cyclefile.specs.Statements.{AreBytes, Words, FlatWritesSame}
+use Rattle.maxeltu.specs.Verdict.{verdictOf}
+
+pub record Demands : Type 0 where
+  -- 1. Any bytes handed in, of any length, are read to their contents or to the numbered refusal. A refusal writes to no lent place.
+
+  pub specification-read : (bytes : List ℕ)
+      → ((s : Spec) × ((readSpec bytes ≡ Accepted s) × IsAccepted s))
+      ⊎ ((n : ℕ) × ((readSpec bytes ≡ NotRead n) × ((1 ≤ n) × (n ≤ 4))))
+  pub cycle-read : (places : ℕ) (file : List ℕ)
+      → ((c : List Pair) × ((readCycle places file ≡ pairs c) × ((1 ≤ length c) × ((length c ≤ 512) × (length c ≤ places)))))
+      ⊎ ((n : ℕ) × ((readCycle places file ≡ refused n) × ((n ≡ 12) ⊎ ((17 ≤ n) × (n ≤ 20)))))
+  pub refused-list-kept : (places n : ℕ) (file : List ℕ) (held : List Pair)
+      → readCycle places file ≡ refused n → placesAfter (readCycle places file) held ≡ held
+  pub refused-bytes-kept : (c : List Pair) (held : List ℕ)
+      → 0 < writeNumber (length held) c → bytesAfter c held ≡ held
+  -- 2. The figures are those that document 01 defines, over every stretch and every k.
+
+  -- a stretch holds, summed, the sizes of the reports at its minutes, however many reports are looked at: every stretch below is such a sum
+  pub stretch-sum : StretchIsSum
+  -- the required supply is what minutes 0 to R - 1 hold, and no stretch of R minutes holds more
+  pub required-supply : (s : Spec) (q : Rates) (k : ℕ) (p : Plan) (v : ℕ) → bothRates s ≡ Both q → scheduleFor MinimumDemand s k ≡ ScheduleOf p v
+      → (stretch (run p) 0 (q .r) ≡ v) × ((a : ℕ) → stretch (run p) a (q .r) ≤ v)
+  -- the available supply is the least that any stretch of P minutes holds
+  pub available-supply : (s : Spec) (q : Rates) (k : ℕ) (p : Plan) (v : ℕ) → bothRates s ≡ Both q → scheduleFor MaximumSupply s k ≡ ScheduleOf p v
+      → ((a : ℕ) → v ≤ stretch (run p) a (q .p)) × ((a : ℕ) × (stretch (run p) a (q .p) ≡ v))
+  -- the test's schedule has the best figure over all k, and of equals the smallest k
+  pub test-best : (s : Spec) (q : Rates) (p : Plan) (v : ℕ) → bothRates s ≡ Both q → testOf s ≡ Passed p v → BestOfAll (familyOf q) s p v
+  -- report i of a proper plan is report i of its endless run, for every i without upper end
+  pub every-report : (p : Plan) (i : ℕ) → proper p ≡ true → reportOf p i ≡ At (minute (run p) i) (run p .size i)
+  -- a written cycle reads back as itself
+  pub reads-back : (places : ℕ) (c : List Pair) → 1 ≤ length c → length c ≤ 512 → length c ≤ places → readCycle places (cycleBytes c) ≡ pairs c
+  -- what is written of 16-bit numbers is made of bytes
+  pub written-bytes : (c : List Pair) → length c ≤ 512 → Words c → AreBytes (cycleBytes c)
+  -- a file that is read is the one that the writer makes of its contents
+  pub writes-back : (places : ℕ) (file : List ℕ) (c : List Pair) → AreBytes file → readCycle places file ≡ pairs c → cycleBytes c ≡ file
+  -- of a list of pairs that is laid flat, the check and the writer say what they say of the list
+  pub flat-checked : FlatSameNumber
+  pub flat-written : FlatWritesSame
+  -- 3. For every accepted specification:
+
+  -- a cycle of 1 to 512 pairs is passed exactly when its endless run obeys the four rules at every starting minute from 0 on
+  pub cycle-passed : (s : Spec) (c : List Pair) → IsAccepted s → 1 ≤ length c → length c ≤ 512 → (checkNumber s c ≡ 0) ↔ Obeys s (cycleRun c)
+  -- the endless run of every plan that the test passed obeys them
+  pub test-obeys : (s : Spec) (p : Plan) (v : ℕ) → testOf s ≡ Passed p v → (proper p ≡ true) × Obeys s (run p)
+  -- and so does that of every even plan
+  pub even-obeys : (s : Spec) (p : Plan) → evenPlan s ≡ Found p → (proper p ≡ true) × Obeys s (run p)
+  -- which has the longest gap: at every longer one each endless list of sizes breaks a rule
+  pub even-longest : (s : Spec) (p : Plan) → evenPlan s ≡ Found p → (g : ℕ) → p .period / p .count < g → (sizes : ℕ → ℕ) → ¬ Obeys s (evenly g sizes)
+  -- the even plan is refused exactly when every schedule with one gap breaks a rule, whatever the gap and whatever the endless list of sizes
+  pub even-refused : (s : Spec) → IsAccepted s → (evenPlan s ≡ Refused 10) ↔ ((g : ℕ) (sizes : ℕ → ℕ) → ¬ Obeys s (evenly g sizes))
+  -- the loader's call gives 0 exactly when both files are read and the cycle's endless run obeys the specification's rules
+  pub verdict-exact : (spec cycle : List ℕ)
+      → (verdictOf spec cycle ≡ 0)
+      ↔ ((s : Spec) × ((c : List Pair) × ((readSpec spec ≡ Accepted s) × ((readCycle 512 cycle ≡ pairs c) × Obeys s (cycleRun c)))))

@@ -1,0 +1,4 @@
+pub mod Fronts
+pub mod Figures
+pub mod Plans
+pub mod Schedules

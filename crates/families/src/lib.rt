@@ -1,0 +1,152 @@
+// The two families of schedules for k reports, with their supply figures (document 01, "Schedules from document 000"). Refusals 3 to 6.
+use numbers::larger;
+use numbers::smaller;
+use numbers::ceil_div;
+use plan::Kind;
+use plan::Plan;
+use spec::BothRates;
+use spec::Rates;
+use spec::Spec;
+ghost use mathlib.Core.Path.{_≡_};
+ghost use mathlib.Core.Bool.{true};
+ghost use Prim.Native.Nat.{_*_, _≤_, _<_};
+ghost use Rattle.spec.specs.declared.BothRates.the-variants.{Both};
+ghost use Rattle.spec.specs.Limits.{IsAccepted};
+ghost use Rattle.spec.specs.Rates.{bothRates};
+ghost use Rattle.schedule.specs.Schedules.{stretch};
+ghost use Rattle.plan.specs.declared.Kind.the-variants.{WellFormed};
+ghost use Rattle.plan.specs.Plans.{proper, run, planOf};
+ghost use Rattle.families.specs.Families.{exists, planFor, required, available, supplyFigure, scheduled, scheduleFor};
+
+pub enum Family {
+    MinimumDemand,
+    MaximumSupply,
+}
+
+// A schedule for k reports with its supply figure, required or available, or the number of the refusal.
+pub enum Scheduled {
+    Found { plan: Plan, supply: u32 },
+    Refused(u32),
+}
+
+// k × n: a product of 48 bits at most.
+fn times(k: u32, n: u16) -> u64
+    ensures { λ r. ⌜ r ≡ k * n ⌝ }
+{
+    (k as u64) * (n as u64)
+}
+
+// Whether the family has a schedule with k reports.
+fn schedule_exists(f: Family, s: Spec, q: Rates, k: u32) -> bool
+    ensures { λ r. ⌜ r ≡ exists f s q k ⌝ }
+{
+    match f {
+        Family::MinimumDemand => (times(k, s.smin) <= q.p as u64)
+            & (q.l as u64 <= times(k, s.dmax)),
+        Family::MaximumSupply => (q.r as u64 <= times(k, s.smax))
+            & (times(k, s.dmin) <= q.b as u64),
+    }
+}
+
+fn well_formed(k: u32, period: u64, total: u64) -> Plan
+    requires { ⌜ (period < 4294967296) × (total < 4294967296) ⌝ }
+    ensures { λ r. ⌜ r ≡ planOf WellFormed k period total ⌝ }
+{
+    Plan {
+        kind: Kind::WellFormed,
+        count: k,
+        period: period as u32,
+        total: total as u32,
+    }
+}
+
+fn plan_for(f: Family, s: Spec, q: Rates, k: u32) -> Plan
+    requires { ⌜ (IsAccepted s) × (bothRates s ≡ Both q) × (exists f s q k ≡ true) ⌝ }
+    ensures { λ r. ⌜ r ≡ planFor f s q k ⌝ }
+{
+    match f {
+        Family::MinimumDemand => well_formed(
+            k,
+            smaller(times(k, s.smax), q.p as u64),
+            larger(times(k, s.dmin), q.l as u64),
+        ),
+        Family::MaximumSupply => well_formed(
+            k,
+            larger(times(k, s.smin), q.r as u64),
+            smaller(times(k, s.dmax), q.b as u64),
+        ),
+    }
+}
+
+// What the first x minutes hold, x at most a period: the reports before minute x are those whose number is below two quotients, and
+// the larger sizes come first.
+fn front_held(plan: Plan, x: u64) -> u64
+    requires { ⌜ (proper plan ≡ true) × (plan .kind ≡ WellFormed) × (x ≤ plan .period) ⌝ }
+    ensures { λ v. ⌜ v ≡ stretch (run plan) 0 x ⌝ }
+{
+    let k = plan.count as u64;
+    let period = plan.period as u64;
+    let total = plan.total as u64;
+    let gap = period / k;
+    let longer = period % k;
+    let shorter = k - longer;
+    let reports = smaller(ceil_div(x, gap), ceil_div(x + shorter, gap + 1));
+    reports * (total / k) + smaller(reports, total % k)
+}
+
+// What minutes 0 to r - 1 hold: whole periods, and the front of one.
+fn required_supply(plan: Plan, r: u16) -> u32
+    requires { ⌜ (proper plan ≡ true) × (plan .kind ≡ WellFormed) ⌝ }
+    ensures { λ v. ⌜ v ≡ required plan r ⌝ }
+{
+    let minutes = r as u64;
+    let period = plan.period as u64;
+    let total = plan.total as u64;
+    (minutes / period * total + front_held(plan, minutes % period)) as u32
+}
+
+// The least that a stretch of p minutes holds: that which ends with a period. Together with the front that it leaves out it is
+// whole periods.
+fn available_supply(plan: Plan, p: u16) -> u32
+    requires { ⌜ (proper plan ≡ true) × (plan .kind ≡ WellFormed) ⌝ }
+    ensures { λ v. ⌜ v ≡ available plan p ⌝ }
+{
+    let minutes = p as u64;
+    let period = plan.period as u64;
+    let total = plan.total as u64;
+    ((minutes / period + 1) * total - front_held(plan, period - minutes % period)) as u32
+}
+
+fn supply_figure(f: Family, q: Rates, plan: Plan) -> u32
+    requires { ⌜ (proper plan ≡ true) × (plan .kind ≡ WellFormed) ⌝ }
+    ensures { λ v. ⌜ v ≡ supplyFigure f q plan ⌝ }
+{
+    match f {
+        Family::MinimumDemand => required_supply(plan, q.r),
+        Family::MaximumSupply => available_supply(plan, q.p),
+    }
+}
+
+// The schedule with k reports and its supply figure, in a few divisions whatever the minutes and k are.
+fn scheduled_with(f: Family, s: Spec, q: Rates, k: u32) -> Scheduled
+    requires { ⌜ (IsAccepted s) × (bothRates s ≡ Both q) ⌝ }
+    ensures { λ r. ⌜ r ≡ scheduled f s q k ⌝ }
+{
+    if !schedule_exists(f, s, q, k) {
+        return Scheduled::Refused(spec::refusal::NO_SCHEDULE);
+    }
+    let plan = plan_for(f, s, q, k);
+    let supply = supply_figure(f, q, plan);
+    Scheduled::Found { plan, supply }
+}
+
+// The family's schedule with k reports and its supply figure, or refusal 3 to 6.
+pub fn schedule_for(f: Family, spec: Spec, k: u32) -> Scheduled
+    ensures { λ r. ⌜ r ≡ scheduleFor f spec k ⌝ }
+{
+    let start = spec::started(spec);
+    let BothRates::Both(q) = start else {
+        return Scheduled::Refused(spec::rates_number(start));
+    };
+    scheduled_with(f, spec, q, k)
+}
