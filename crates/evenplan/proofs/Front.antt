@@ -10,7 +10,7 @@ use lib.ListN.{length, take, getD}
 use lib.Seq.{take-all, length-take-le, getD-take}
 use borrow.Author.Tests.{lt-ltb, ne-eqb}
 use Rattle.spec.specs.File.{bit, fileLength, readSpec}
-use Rattle.even.specs.Even.{evenOf, evenOfRead}
+use Rattle.even.specs.Even.{evenOf}
 
 bit-most : (m k : ℕ) → bit m k < 2
 bit-most m k = mod-lt (m / 2 ^ k) (omega arith)
@@ -32,4 +32,4 @@ read-front b = elim (decLt 22 (length b)) [ yes h ↦ long h | no h ↦ ap readS
         rw (getD-take 22 b 0 0 (omega arith), front, front-too-long, too-long, lt-ltb 0 (length b) (omega arith))
 
 pub even-of-front : (b : List ℕ) → evenOf (take 22 b) ≡ evenOf b
-even-of-front b = ap evenOfRead (read-front b)
+even-of-front b = rw (read-front b)

@@ -1,7 +1,7 @@
 // The two families of schedules for k reports, with their supply figures (document 01, "Schedules from document 000"). Refusals 3 to 6.
+use numbers::ceil_div;
 use numbers::larger;
 use numbers::smaller;
-use numbers::ceil_div;
 use plan::Kind;
 use plan::Plan;
 use spec::BothRates;

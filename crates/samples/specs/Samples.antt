@@ -6,31 +6,31 @@ use mathlib.Core.Bool.{Bool, true, false, cond, _&&_}
 use lib.Dec.{eqb}
 use Rattle.spec.specs.declared.Rate.{Rate}
 use Rattle.spec.specs.declared.Rate.the-variants.{Absent, Present}
-use Rattle.spec.specs.declared.Duration.{Duration}
-use Rattle.spec.specs.declared.Duration.the-variants.{Absent as NoDuration, Present as DurationOf}
+use Rattle.spec.specs.declared.Range.{Range}
+use Rattle.spec.specs.declared.Range.the-variants.{Absent as NoRange, Present as RangeOf}
 use Rattle.spec.specs.declared.Spec.{Spec}
 use Rattle.spec.specs.declared.SpecRead.{SpecRead}
 use Rattle.spec.specs.declared.SpecRead.the-variants.{Accepted, Refused as NotRead}
-use Rattle.spec.specs.Limits.{specNumber, limits, order, rateLimits, durationLimits, durationOrder, sizeAllowed, gapAllowed, gapTop}
-use Rattle.spec.specs.File.{readSpec, judged as judgedSpec}
+use Rattle.spec.specs.Limits.{specNumber, ifAccepted, limits, order, rateLimits, rangeLimits, rangeOrder, sizeAllowed, gapAllowed, gapTop}
+use Rattle.spec.specs.File.{readSpec}
+use Rattle.spec.specs.Rates.{ratesFrom, bothRates, started}
+use Rattle.numbers.specs.Numbers.{ceil}
 use Rattle.schedule.specs.Schedules.{Schedule, sum, minute, heldFrom, stretch}
 use Rattle.plan.specs.declared.Plan.{Plan}
 use Rattle.plan.specs.declared.Reported.{Reported}
 use Rattle.plan.specs.declared.Reported.the-variants.{At, Refused as NotReported}
-use Rattle.plan.specs.Plans.{planNumbers, proper, run, kindRun, wellSize, wellGap, evenSize}
+use Rattle.plan.specs.Plans.{proper, run, kindRun, wellSize, wellGap, evenSize}
 use Rattle.plan.specs.Reports.{reportOf}
-use Rattle.feasibility.specs.declared.Consistency.{Consistency}
-use Rattle.feasibility.specs.declared.Scheduled.{Scheduled}
-use Rattle.feasibility.specs.declared.Scheduled.the-variants.{Found as Scheduled-Found, Refused as NotScheduled}
-use Rattle.feasibility.specs.declared.Tested.{Tested}
-use Rattle.feasibility.specs.declared.Tested.the-variants.{Passed, Refused as NotPassed, Inconsistent}
-use Rattle.feasibility.specs.Answers.{Answer, consistencyAnswer, scheduledAnswer, testedAnswer}
-use Rattle.feasibility.specs.Consistency.{consistencyOf, conditionsOf, boundsFitRates, sizeFitsBudget, gapFitsDemand, demandFitsDuration, fewestReportsFitBudget, enoughReportsForDemand, supplyCoversDemand, whereRate, whereDuration, ceil}
-use Rattle.feasibility.specs.Families.{minimumDemandFor, maximumSupplyFor, scheduleFor, ifRates, bothRates, ratesFrom, scheduled, exists, planFor, periodFor, totalFor, supplyFigure, required, available, least}
-use Rattle.feasibility.specs.Test.{testOf, testRates, testConditions, testTaken, passes, taken, lastCount, takenUpTo, betterOf, isBetter, familyOf}
+use Rattle.consistency.specs.Consistency.{consistencyOf, conditionsOf, boundsFitRates, sizeFitsBudget, gapFitsDemand, demandFitsDuration, fewestReportsFitBudget, enoughReportsForDemand, supplyCoversDemand, whereRate, whereRange}
+use Rattle.families.specs.declared.Family.the-variants.{MinimumDemand, MaximumSupply}
+use Rattle.families.specs.declared.Scheduled.{Scheduled}
+use Rattle.families.specs.declared.Scheduled.the-variants.{Found as ScheduleOf, Refused as NotScheduled}
+use Rattle.families.specs.Families.{scheduleFor, scheduled, exists, planFor, supplyFigure, required, available, least}
+use Rattle.feasibility.specs.Test.{testOf, testConsistent, testTaken, figurePasses, taken, lastCount, takenUpTo, betterOf, isBetter, familyOf}
 use Rattle.even.specs.declared.EvenPlan.{EvenPlan}
 use Rattle.even.specs.declared.EvenPlan.the-variants.{Found, Refused}
-use Rattle.even.specs.Even.{evenPlan, planOr10, evenPlanAt, evenGap, largest, fits, supplyFits, demandFits, totalOf, countAt, mostIn}
+use Rattle.even.specs.Even.{evenPlan, planOr10, evenPlanAt, evenGap, largest, fits, supplyFits, demandFits, totalOf, countAt}
+use Rattle.answers.specs.Answers.{Answer, consistencyAnswer, scheduledAnswer, testedAnswer, evenAnswer}
 use Rattle.pairs.specs.declared.Pair.{Pair}
 use Rattle.cycle.specs.Cycles.{pairGap, pairSize, cycleRun, round}
 use Rattle.cycle.specs.Check.{checkNumber, cycleNumber, countAllowed, gapsAllowed, sizesAllowed, supplyKept, demandMet, all}
@@ -71,7 +71,7 @@ reportsAre p i [] (d ∷ ds) = false
 reportsAre p i (m ∷ ms) [] = false
 
 scheduleReports : Scheduled → List ℕ → List ℕ → Bool
-scheduleReports (Scheduled-Found p v) minutes sizes = reportsAre p 0 minutes sizes
+scheduleReports (ScheduleOf p v) minutes sizes = reportsAre p 0 minutes sizes
 scheduleReports (NotScheduled n) minutes sizes = false
 
 -- the kinds, as numbers
@@ -81,17 +81,9 @@ wellFormed = 0
 even : ℕ
 even = 1
 
-evenIs : EvenPlan → ℕ → ℕ → ℕ → Bool
-evenIs (Found p) gap k total = same (planNumbers p []) (even ∷ k ∷ k * gap ∷ total ∷ [])
-evenIs (Refused n) gap k total = false
-
 evenReportsAre : EvenPlan → List ℕ → List ℕ → Bool
 evenReportsAre (Found p) minutes sizes = reportsAre p 0 minutes sizes
 evenReportsAre (Refused n) minutes sizes = false
-
-evenRefusal : EvenPlan → ℕ → Bool
-evenRefusal (Found p) number = false
-evenRefusal (Refused n) number = eqb n number
 
 sameRate : Rate → Rate → Bool
 sameRate Absent Absent = true
@@ -99,30 +91,30 @@ sameRate (Present n m) (Present n′ m′) = eqb n n′ && eqb m m′
 sameRate Absent (Present n m) = false
 sameRate (Present n m) Absent = false
 
-sameDuration : Duration → Duration → Bool
-sameDuration NoDuration NoDuration = true
-sameDuration (DurationOf n m) (DurationOf n′ m′) = eqb n n′ && eqb m m′
-sameDuration NoDuration (DurationOf n m) = false
-sameDuration (DurationOf n m) NoDuration = false
+sameRange : Range → Range → Bool
+sameRange NoRange NoRange = true
+sameRange (RangeOf n m) (RangeOf n′ m′) = eqb n n′ && eqb m m′
+sameRange NoRange (RangeOf n m) = false
+sameRange (RangeOf n m) NoRange = false
 
 readTo : SpecRead → Spec → Bool
 readTo (Accepted r) s =
     same (r .dmin ∷ r .dmax ∷ r .smin ∷ r .smax ∷ []) (s .dmin ∷ s .dmax ∷ s .smin ∷ s .smax ∷ [])
     && sameRate (r .supply) (s .supply)
     && sameRate (r .demand) (s .demand)
-    && sameDuration (r .duration) (s .duration)
+    && sameRange (r .duration) (s .duration)
 readTo (NotRead n) s = false
 
 claimHolds : Spec → Claim → Bool
 claimHolds s isConsistent = answerIs (consistencyAnswer (consistencyOf s)) 0 []
-claimHolds s (minimumDemand k π δ v) = answerIs (scheduledAnswer (minimumDemandFor s k)) 0 (wellFormed ∷ k ∷ π ∷ δ ∷ v ∷ [])
-claimHolds s (minimumDemandReports k minutes sizes) = scheduleReports (minimumDemandFor s k) minutes sizes
-claimHolds s (maximumSupply k π δ v) = answerIs (scheduledAnswer (maximumSupplyFor s k)) 0 (wellFormed ∷ k ∷ π ∷ δ ∷ v ∷ [])
+claimHolds s (minimumDemand k π δ v) = answerIs (scheduledAnswer (scheduleFor MinimumDemand s k)) 0 (wellFormed ∷ k ∷ π ∷ δ ∷ v ∷ [])
+claimHolds s (minimumDemandReports k minutes sizes) = scheduleReports (scheduleFor MinimumDemand s k) minutes sizes
+claimHolds s (maximumSupply k π δ v) = answerIs (scheduledAnswer (scheduleFor MaximumSupply s k)) 0 (wellFormed ∷ k ∷ π ∷ δ ∷ v ∷ [])
 claimHolds s (testPasses k π δ v) = answerIs (testedAnswer (testOf s)) 0 (wellFormed ∷ k ∷ π ∷ δ ∷ v ∷ [])
 claimHolds s (testRefuses n) = answerIs (testedAnswer (testOf s)) n []
-claimHolds s (evenGives g k δ) = evenIs (evenPlan s) g k δ
+claimHolds s (evenGives g k δ) = answerIs (evenAnswer (evenPlan s)) 0 (even ∷ k ∷ k * g ∷ δ ∷ [])
 claimHolds s (evenReports minutes sizes) = evenReportsAre (evenPlan s) minutes sizes
-claimHolds s (evenRefuses n) = evenRefusal (evenPlan s) n
+claimHolds s (evenRefuses n) = answerIs (evenAnswer (evenPlan s)) n []
 claimHolds s (cycleGets c n) = eqb (checkNumber s c) n
 claimHolds s (isReadFrom file) = readTo (readSpec file) s
 
@@ -144,7 +136,7 @@ sample dmin dmax smin smax b r l p cs = record {
     smax = smax;
     supply = Present b r;
     demand = Present l p;
-    duration = NoDuration;
+    duration = NoRange;
   };
   claims = cs;
 }
@@ -193,5 +185,5 @@ samplesHold (x ∷ xs) = claimsHold (x .spec) (x .claims) && samplesHold xs
 
 -- Every value of the table is what the definitions compute.
 pub samples-hold : samplesHold samples ≡ true
-unfolding samplesHold samples sample cycle claimsHold claimHolds same answerIs reportIs reportsAre scheduleReports wellFormed even evenIs evenReportsAre evenRefusal sameRate sameDuration readTo specNumber limits order rateLimits durationLimits durationOrder sizeAllowed gapAllowed gapTop readSpec judgedSpec sum minute heldFrom stretch proper run kindRun wellSize wellGap evenSize reportOf consistencyOf conditionsOf boundsFitRates sizeFitsBudget gapFitsDemand demandFitsDuration fewestReportsFitBudget enoughReportsForDemand supplyCoversDemand whereRate whereDuration ceil scheduleFor ifRates bothRates ratesFrom scheduled exists planFor periodFor totalFor supplyFigure required available least testOf testRates testConditions testTaken passes taken lastCount takenUpTo betterOf isBetter familyOf evenPlan planOr10 evenPlanAt evenGap largest fits supplyFits demandFits totalOf countAt mostIn pairGap pairSize cycleRun round checkNumber cycleNumber countAllowed gapsAllowed sizesAllowed supplyKept demandMet all
+unfolding samplesHold samples sample cycle claimsHold claimHolds same answerIs reportIs reportsAre scheduleReports wellFormed even evenReportsAre sameRate sameRange readTo specNumber limits order rateLimits rangeLimits rangeOrder sizeAllowed gapAllowed gapTop readSpec ifAccepted started sum minute heldFrom stretch proper run kindRun wellSize wellGap evenSize reportOf consistencyOf conditionsOf boundsFitRates sizeFitsBudget gapFitsDemand demandFitsDuration fewestReportsFitBudget enoughReportsForDemand supplyCoversDemand whereRate whereRange ceil scheduleFor bothRates ratesFrom scheduled exists planFor supplyFigure required available least testOf testConsistent testTaken figurePasses taken lastCount takenUpTo betterOf isBetter familyOf evenPlan planOr10 evenPlanAt evenGap largest fits supplyFits demandFits totalOf countAt pairGap pairSize cycleRun round checkNumber cycleNumber countAllowed gapsAllowed sizesAllowed supplyKept demandMet all
 samples-hold = refl

@@ -1,12 +1,13 @@
 // The marked samples of document 01, run through the functions: what this program prints is compared with the file `stdout`. Crate
 // `samples` has the same samples as a table, with one proof that the definitions give every value.
 use even::EvenPlan;
-use feasibility::Scheduled;
+use families::Family;
+use families::Scheduled;
 use feasibility::Tested;
 use libc::STDOUT_FILENO;
 use plan::Plan;
 use plan::Reported;
-use spec::Duration;
+use spec::Range;
 use spec::Rate;
 use spec::Spec;
 use spec::SpecRead;
@@ -26,7 +27,7 @@ fn sample(sizes: [u16; 2], gaps: [u16; 2], supply: [u16; 2], demand: [u16; 2]) -
             records: demand[0],
             minutes: demand[1],
         },
-        duration: Duration::Absent,
+        duration: Range::Absent,
     }
 }
 
@@ -95,17 +96,18 @@ fn schedule(s: Scheduled) {
 
 fn minimum_demand(s: Spec, k: u32) {
     text(b"  minimum demand");
-    schedule(feasibility::min_demand(s, k));
+    schedule(families::schedule_for(Family::MinimumDemand, s, k));
 }
 
 fn maximum_supply(s: Spec, k: u32) {
     text(b"  maximum supply");
-    schedule(feasibility::max_supply(s, k));
+    schedule(families::schedule_for(Family::MaximumSupply, s, k));
 }
 
 fn consistency(s: Spec) {
     text(b"  consistency");
-    number(feasibility::consistency_number(feasibility::consistency_of(s)) as u64);
+    let mut condition = 0;
+    number(answers::consistency_answer(consistency::consistency_of(s), &mut condition) as u64);
     end();
 }
 
@@ -120,7 +122,7 @@ fn test(s: Spec) {
         }
         Tested::Inconsistent(c) => {
             text(b" inconsistent");
-            number(feasibility::condition_number(c) as u64);
+            number(answers::condition_number(c) as u64);
             end();
         }
         Tested::Refused(n) => {

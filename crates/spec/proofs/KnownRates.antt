@@ -51,4 +51,3 @@ known s q a e =
       least = (y .0, y .1);
       demand-minutes = (y .2, y .3);
     }
-
