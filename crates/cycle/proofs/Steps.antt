@@ -1,34 +1,43 @@
 -- The check step by step: what each test that passed or failed makes of the number.
-use Prim.Native.Nat.{ℕ, _/_, _≤_}
-use mathlib.Core.Path.{_≡_, sym, _∙_, ap}
+use Prim.Native.Nat.{ℕ, _/_}
+use native.Mathlib.Omega.{arith}
+use mathlib.Core.Path.{_≡_, refl, sym, ap}
 use mathlib.Core.List.{List}
 use mathlib.Core.Bool.{true, false}
 use lib.ListN.{length}
-use borrow.Author.Tests.{eq-eqb, ne-eqb}
 use Rattle.spec.specs.declared.Spec.{Spec}
 use Rattle.spec.specs.Limits.{between, specNumber, IsAccepted}
 use Rattle.spec.proofs.Facts.{between-iff, gap-allowed-pos}
+use Rattle.spec.proofs.GoingOn.{goes-on, stops}
 use Rattle.pairs.specs.declared.Pair.{Pair}
 use Rattle.pairs.specs.Pairs.{pairsOf}
 use Rattle.pairs.proofs.FlatLists.{length-pairsOf}
-use Rattle.cycle.specs.Cycles.{pairGap, cycleRun}
 use Rattle.cycle.specs.Check.{countAllowed, gapsAllowed, sizesAllowed, supplyKept, demandMet, cycleNumber, checkNumber}
-use Rattle.cycle.specs.Windows.{Walkable}
-use Rattle.cycle.proofs.Runs.{all-right, all-gaps}
+use Rattle.cycle.specs.Windows.{fieldsAllowed, runOf, Walkable}
+use Rattle.cycle.proofs.Runs.{gaps-right}
 
 pub count-flat : (l : List ℕ) → between 1 512 (length l / 2) ≡ countAllowed (pairsOf l)
 unfolding countAllowed
 count-flat l = ap (between 1 512) (sym (length-pairsOf l))
 
+-- the two fields of the walk
+pub gaps-field : (spec : Spec) (ps : List Pair) → fieldsAllowed spec 0 ps ≡ gapsAllowed spec ps
+unfolding fieldsAllowed gapsAllowed
+gaps-field spec ps = refl
+
+pub sizes-field : (spec : Spec) (ps : List Pair) → fieldsAllowed spec 1 ps ≡ sizesAllowed spec ps
+unfolding fieldsAllowed sizesAllowed
+sizes-field spec ps = refl
+
 module _ (spec : Spec) (ps : List Pair) where
   pub gets-refused : (specNumber spec ≡ 0 → ⊥) → specNumber spec ≡ checkNumber spec ps
   unfolding checkNumber
-  gets-refused h = rw (ne-eqb (specNumber spec) 0 h)
+  gets-refused h = sym (stops spec (cycleNumber spec ps) (λ n. n) h)
 
   module _ (accepted : IsAccepted spec) where
     pub gets-cycle : checkNumber spec ps ≡ cycleNumber spec ps
     unfolding checkNumber
-    gets-cycle = rw (eq-eqb (specNumber spec) 0 accepted)
+    gets-cycle = goes-on spec (cycleNumber spec ps) (λ n. n) accepted
 
     pub gets-12 : countAllowed ps ≡ false → 12 ≡ checkNumber spec ps
     unfolding cycleNumber
@@ -40,13 +49,6 @@ module _ (spec : Spec) (ps : List Pair) where
       gets-13 h = rw (gets-cycle, count, h)
 
       module _ (gaps : gapsAllowed spec ps ≡ true) where
-        -- from here on no gap is 0
-        pub gaps-later : (i : ℕ) → 1 ≤ cycleRun ps .gap i
-        unfolding countAllowed gapsAllowed
-        gaps-later =
-            all-gaps ps (between-iff 1 512 (length ps) .0 count .0) (λ g. 1 ≤ g)
-            (λ j h. gap-allowed-pos spec (pairGap ps j) accepted (all-right _ (length ps) .0 gaps j h))
-
         pub gets-14 : sizesAllowed spec ps ≡ false → 14 ≡ checkNumber spec ps
         unfolding cycleNumber
         gets-14 h = rw (gets-cycle, count, gaps, h)
@@ -65,8 +67,9 @@ module _ (spec : Spec) (ps : List Pair) where
             unfolding cycleNumber
             gets-0 h = rw (gets-cycle, count, gaps, sizes, supply, h)
 
--- a flat list that got as far as its stretches
+-- a flat list that got as far as its stretches: a gap that is allowed is no 0
 pub walkable : (spec : Spec) (l : List ℕ) → IsAccepted spec → between 1 512 (length l / 2) ≡ true → gapsAllowed spec (pairsOf l) ≡ true → Walkable l
 walkable spec l accepted count gaps =
     let k = between-iff 1 512 (length l / 2) .0 count in
-    record { some = k .0; few = k .1; later = gaps-later spec (pairsOf l) accepted (sym (count-flat l) ∙ count) gaps }
+    let allowed = gaps-right (pairsOf l) (omega (arith, length-pairsOf l)) spec .0 gaps in
+    record { some = k .0; few = k .1; later = λ i. gap-allowed-pos spec (runOf l .gap i) accepted (allowed i) }

@@ -1,25 +1,21 @@
 -- Document 01, "Checking a cycle: 12 count 0 or above 512; 13 some gap out of range; 14 some size; 15 some R minutes too full; 16 some
 -- P minutes too thin", after 3 and 4, with which every operation on a specification begins. "A refusal yields its number, the first
 -- that applies"; "a cycle is passed when its check gives no refusal number".
-use Prim.Native.Nat.{ℕ, zero, suc}
+use Prim.Native.Nat.{ℕ}
 use mathlib.Core.List.{List}
-use mathlib.Core.Bool.{Bool, true, false, cond}
-use lib.Dec.{leb, eqb}
+use mathlib.Core.Bool.{Bool, true, cond}
+use lib.Dec.{leb}
 use lib.ListN.{length}
+use Rattle.numbers.specs.Numbers.{all}
 use Rattle.spec.specs.declared.Rate.{Rate}
 use Rattle.spec.specs.declared.Rate.the-variants.{Absent, Present}
 use Rattle.spec.specs.declared.Spec.{Spec}
 use Rattle.spec.specs.declared.SpecRead.{SpecRead}
-use Rattle.spec.specs.declared.SpecRead.the-variants.{Accepted, Refused}
-use Rattle.spec.specs.Limits.{between, specNumber, sizeAllowed, gapAllowed}
+use Rattle.spec.specs.File.{ifRead}
+use Rattle.spec.specs.Limits.{between, ifAccepted, sizeAllowed, gapAllowed}
 use Rattle.pairs.specs.declared.Pair.{Pair}
 use Rattle.schedule.specs.Schedules.{stretch}
 use Rattle.cycle.specs.Cycles.{pairGap, pairSize, cycleRun, round}
-
--- f 0, .., f (n - 1) all pass
-unfoldable pub all : (ℕ → Bool) → ℕ → Bool
-all f zero = true
-all f (suc n) = elim (f n) [ true ↦ all f n | false ↦ false ]
 
 unfoldable pub countAllowed : List Pair → Bool
 countAllowed ps = between 1 512 (length ps)
@@ -40,7 +36,7 @@ unfoldable pub demandMet : Rate → List Pair → Bool
 demandMet Absent ps = true
 demandMet (Present l p) ps = all (λ a. leb l (stretch (cycleRun ps) a p)) (round ps)
 
--- the first of 12 to 16 that applies, or 0
+-- the first of 12 to 16 that applies, or 0; after 3 and 4; after 1 to 4, given a specification's file
 unfoldable pub cycleNumber : Spec → List Pair → ℕ
 cycleNumber spec ps =
     cond (countAllowed ps)
@@ -53,11 +49,8 @@ cycleNumber spec ps =
     13)
     12
 
--- "Every operation given a specification as numbers begins with 3 and 4"
 unfoldable pub checkNumber : Spec → List Pair → ℕ
-checkNumber spec ps = cond (eqb (specNumber spec) 0) (cycleNumber spec ps) (specNumber spec)
+checkNumber spec ps = ifAccepted spec (cycleNumber spec ps) (λ n. n)
 
--- the same given a specification's file: 1 to 4 first
 unfoldable pub checkFileNumber : SpecRead → List Pair → ℕ
-checkFileNumber (Accepted spec) ps = checkNumber spec ps
-checkFileNumber (Refused n) ps = n
+checkFileNumber read ps = ifRead read (λ spec. checkNumber spec ps) (λ n. n)

@@ -1,4 +1,5 @@
 pub mod Cycles
 pub mod Check
 pub mod Windows
+pub mod Witnesses
 pub mod Statements

@@ -1,11 +1,14 @@
--- What the inner functions of the check say of one another: a window of neighbouring reports that moves over the endless run. None
--- of it stands in the contract of a function that others call.
-use Prim.Native.Nat.{ℕ, _+_, _-_, _*_, _/_, _≤_, _<_}
+-- What the inner functions of the check say of one another: one walk over the gaps or the sizes, and a window of neighbouring reports
+-- that moves over the endless run. None of it stands in the contract of a function that others call.
+use Prim.Native.Nat.{ℕ, zero, suc, _+_, _-_, _*_, _/_, _≤_, _<_}
 use mathlib.Core.Path.{_≡_}
 use mathlib.Core.Bool.{Bool}
 use mathlib.Core.List.{List}
 use lib.Dec.{leb}
 use lib.ListN.{length}
+use Rattle.numbers.specs.Numbers.{all}
+use Rattle.spec.specs.declared.Spec.{Spec}
+use Rattle.spec.specs.Limits.{sizeAllowed, gapAllowed}
 use Rattle.pairs.specs.declared.Pair.{Pair}
 use Rattle.pairs.specs.Pairs.{pairsOf}
 use Rattle.schedule.specs.Schedules.{Schedule, sum, minute, stretch}
@@ -15,8 +18,20 @@ use Rattle.cycle.specs.declared.stretches.Round.{Round}
 use Rattle.cycle.specs.declared.stretches.Rule.{Rule}
 use Rattle.cycle.specs.declared.stretches.Rule.the-variants.{AtMost, AtLeast}
 use Rattle.cycle.specs.declared.stretches.Window.{Window}
-use Rattle.cycle.specs.Cycles.{cycleRun, round, roundRecords}
-use Rattle.cycle.specs.Check.{all}
+use Rattle.cycle.specs.Cycles.{pairGap, pairSize, cycleRun, round}
+
+-- A pair's fields by their place in it: its gap is field 0, its size field 1. Field k of pair j, and whether it may be x.
+abbrev pub field : ℕ → List Pair → ℕ → ℕ
+field zero ps j = pairGap ps j
+field (suc k) ps j = pairSize ps j
+
+abbrev pub fieldAllowed : Spec → ℕ → ℕ → Bool
+fieldAllowed spec zero x = gapAllowed spec x
+fieldAllowed spec (suc k) x = sizeAllowed spec x
+
+-- field k of every pair is in range: the gaps' test is that of field 0, the sizes' that of field 1
+unfoldable pub fieldsAllowed : Spec → ℕ → List Pair → Bool
+fieldsAllowed spec k ps = all (λ j. fieldAllowed spec k (field k ps j)) (length ps)
 
 -- the endless run of the pairs that a flat list holds
 abbrev pub runOf : List ℕ → Schedule
@@ -35,6 +50,10 @@ pub record IsReport (s : Schedule) (i : ℕ) (x : Report) : Type 0 where
   pub gap-fits : x .gap ≤ 65535
   pub size-fits : x .size ≤ 65535
 
+-- the records of one round
+unfoldable pub roundRecords : List Pair → ℕ
+roundRecords ps = sum (cycleRun ps .size) (length ps)
+
 -- x is the minutes and the records of one round
 pub record IsRound (ps : List Pair) (x : Round) : Type 0 where
   pub minutes : x .minutes ≡ round ps
@@ -49,9 +68,9 @@ pub record IsParts (ps : List Pair) (m : ℕ) (x : Parts) : Type 0 where
   pub short : x .rest ≤ round ps
   pub rounds-fit : x .rounds ≤ 65535 * (65535 * 512)
 
--- The window holds the reports from `first` up to but not including `past`: the minutes between those two, and the records that it
+-- The window spans the reports from `first` up to but not including `past`: the minutes between those two, and the records that it
 -- holds. None of the reports before `past` is v minutes or more after report `first`.
-pub record Holds (s : Schedule) (v : ℕ) (w : Window) : Type 0 where
+pub record Spans (s : Schedule) (v : ℕ) (w : Window) : Type 0 where
   pub forward : w .first ≤ w .past
   pub minutes : minute s (w .past) ≡ minute s (w .first) + w .minutes
   pub records : sum (s .size) (w .past) ≡ sum (s .size) (w .first) + w .records
@@ -68,10 +87,10 @@ withoutReport w x = record { first = w .first + 1; past = w .past; minutes = w .
 
 -- What a rule asks of minutes that start with a report of the given size and hold so many records. AtMost: they hold at most b.
 -- AtLeast: the minutes after the first of them hold at least l.
-abbrev pub passes : Rule → ℕ → ℕ → Bool
-passes (AtMost b) held size = leb held b
-passes (AtLeast l) held size = leb (l + size) held
+abbrev pub rulePasses : Rule → ℕ → ℕ → Bool
+rulePasses (AtMost b) held size = leb held b
+rulePasses (AtLeast l) held size = leb (l + size) held
 
 -- the rule passes at each report of one round, for the w minutes that start there
 unfoldable pub startsPass : Rule → ℕ → List Pair → Bool
-startsPass rule w ps = all (λ i. passes rule (stretch (cycleRun ps) (minute (cycleRun ps) i) w) (cycleRun ps .size i)) (length ps)
+startsPass rule w ps = all (λ i. rulePasses rule (stretch (cycleRun ps) (minute (cycleRun ps) i) w) (cycleRun ps .size i)) (length ps)

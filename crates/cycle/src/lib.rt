@@ -12,38 +12,34 @@ use spec::refusal;
 use stretches::Rule;
 ghost use mathlib.Core.Path.{_≡_};
 ghost use mathlib.Core.Bool.{true};
-ghost use Prim.Native.Nat.{_*_, _/_, _≤_};
+ghost use Prim.Native.Nat.{_*_, _/_, _<_, _≤_};
 ghost use lib.ListN.{length, take};
 ghost use Rattle.spec.specs.Limits.{rateLimits};
 ghost use Rattle.spec.specs.File.{readSpec};
 ghost use Rattle.pairs.specs.Pairs.{pairsOf, flatPairs};
-ghost use Rattle.cycle.specs.Check.{gapsAllowed, sizesAllowed, supplyKept, demandMet, checkNumber, checkFileNumber};
-ghost use Rattle.cycle.specs.Windows.{Walkable};
+ghost use Rattle.cycle.specs.Check.{supplyKept, demandMet, checkNumber, checkFileNumber};
+ghost use Rattle.cycle.specs.Windows.{fieldAllowed, fieldsAllowed, Walkable};
 
-// Whether every gap, every size is in range.
-fn gaps_allowed(spec: Spec, words: &[u16]) -> bool
-    requires { ⌜ length (now words) / 2 ≤ 512 ⌝ }
-    ensures { λ r. ⌜ r ≡ gapsAllowed spec (pairsOf (now (words .entry))) ⌝ }
+// Whether a pair's field may be x: its gap is field 0, its size field 1.
+fn field_allowed(spec: Spec, field: usize, x: u16) -> bool
+    ensures { λ r. ⌜ r ≡ fieldAllowed spec field x ⌝ }
 {
-    let count = words.len() / 2;
-    let mut j: usize = 0;
-    while j < count {
-        if !spec::gap_allowed(spec, words[2 * j]) {
-            return false;
-        }
-        j += 1;
+    if field == 0 {
+        spec::gap_allowed(spec, x)
+    } else {
+        spec::size_allowed(spec, x)
     }
-    true
 }
 
-fn sizes_allowed(spec: Spec, words: &[u16]) -> bool
-    requires { ⌜ length (now words) / 2 ≤ 512 ⌝ }
-    ensures { λ r. ⌜ r ≡ sizesAllowed spec (pairsOf (now (words .entry))) ⌝ }
+// Whether that field of every pair is in range.
+fn fields_allowed(spec: Spec, words: &[u16], field: usize) -> bool
+    requires { ⌜ (length (now words) / 2 ≤ 512) × (field < 2) ⌝ }
+    ensures { λ r. ⌜ r ≡ fieldsAllowed spec field (pairsOf (now (words .entry))) ⌝ }
 {
     let count = words.len() / 2;
     let mut j: usize = 0;
     while j < count {
-        if !spec::size_allowed(spec, words[2 * j + 1]) {
+        if !field_allowed(spec, field, words[2 * j + field]) {
             return false;
         }
         j += 1;
@@ -93,10 +89,10 @@ pub fn check(spec: Spec, words: &[u16]) -> u32
     if !((1 <= count) & (count <= pairs::MOST_PAIRS)) {
         return refusal::COUNT;
     }
-    if !gaps_allowed(spec, words) {
+    if !fields_allowed(spec, words, 0) {
         return refusal::GAP;
     }
-    if !sizes_allowed(spec, words) {
+    if !fields_allowed(spec, words, 1) {
         return refusal::SIZE;
     }
     let supply = spec.supply;

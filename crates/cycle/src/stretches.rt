@@ -1,11 +1,11 @@
 // A window of neighbouring reports that moves over the endless repetition: what each stretch that starts at a report of one round
 // holds, in one pass over the pairs.
 ghost use mathlib.Core.Path.{_≡_};
-ghost use Prim.Native.Nat.{ℕ, _+_, _*_, _/_, _%_, _<_, _≤_};
+ghost use Prim.Native.Nat.{_+_, _*_, _/_, _%_, _<_, _≤_};
 ghost use lib.ListN.{length};
 ghost use Rattle.pairs.specs.Pairs.{pairsOf};
 ghost use Rattle.cycle.specs.Cycles.{round};
-ghost use Rattle.cycle.specs.Windows.{runOf, Walkable, IsReport, IsRound, IsParts, Holds, withReport, withoutReport, passes, startsPass};
+ghost use Rattle.cycle.specs.Windows.{runOf, Walkable, IsReport, IsRound, IsParts, Spans, withReport, withoutReport, rulePasses, startsPass};
 
 // One report: its size, and the gap to the next.
 struct Report {
@@ -114,8 +114,8 @@ fn round_of(words: &[u16]) -> Round
 
 // The window with its end moved on to the first report that is v minutes or more after report `first`.
 fn filled(words: &[u16], window: Window, v: u64) -> Window
-    requires { ⌜ Walkable (now words) × (window .first < length (now words) / 2) × (v ≤ round (pairsOf (now words))) × Holds (runOf (now words)) v window ⌝ }
-    ensures { λ r. ⌜ (r .first ≡ window .first) × (v ≤ r .minutes) × Holds (runOf (now (words .entry))) v r ⌝ }
+    requires { ⌜ Walkable (now words) × (window .first < length (now words) / 2) × (v ≤ round (pairsOf (now words))) × Spans (runOf (now words)) v window ⌝ }
+    ensures { λ r. ⌜ (r .first ≡ window .first) × (v ≤ r .minutes) × Spans (runOf (now (words .entry))) v r ⌝ }
 {
     let mut w = window;
     while w.minutes < v {
@@ -127,7 +127,7 @@ fn filled(words: &[u16], window: Window, v: u64) -> Window
 
 fn rule_passes(rule: Rule, held: u64, size: u64) -> bool
     requires { ⌜ size ≤ 65535 ⌝ }
-    ensures { λ r. ⌜ r ≡ passes rule held size ⌝ }
+    ensures { λ r. ⌜ r ≡ rulePasses rule held size ⌝ }
 {
     match rule {
         Rule::AtMost(b) => held <= wide(b),

@@ -14,7 +14,7 @@ use Rattle.spec.specs.declared.SpecRead.the-variants.{Accepted, Refused as NotR
 use Rattle.spec.specs.Limits.{specNumber, ifAccepted, limits, order, rateLimits, rangeLimits, rangeOrder, sizeAllowed, gapAllowed, gapTop}
 use Rattle.spec.specs.File.{readSpec}
 use Rattle.spec.specs.Rates.{ratesFrom, bothRates, started}
-use Rattle.numbers.specs.Numbers.{ceil}
+use Rattle.numbers.specs.Numbers.{ceil, all}
 use Rattle.schedule.specs.Schedules.{Schedule, sum, minute, heldFrom, stretch}
 use Rattle.plan.specs.declared.Plan.{Plan}
 use Rattle.plan.specs.declared.Reported.{Reported}
@@ -33,7 +33,7 @@ use Rattle.even.specs.Even.{evenPlan, planOr10, evenPlanAt, evenGap, largest, f
 use Rattle.answers.specs.Answers.{Answer, consistencyAnswer, scheduledAnswer, testedAnswer, evenAnswer}
 use Rattle.pairs.specs.declared.Pair.{Pair}
 use Rattle.cycle.specs.Cycles.{pairGap, pairSize, cycleRun, round}
-use Rattle.cycle.specs.Check.{checkNumber, cycleNumber, countAllowed, gapsAllowed, sizesAllowed, supplyKept, demandMet, all}
+use Rattle.cycle.specs.Check.{checkNumber, cycleNumber, countAllowed, gapsAllowed, sizesAllowed, supplyKept, demandMet}
 
 -- what the document says of a specification; a report is its minute and its size
 pub data Claim : Type 0 where

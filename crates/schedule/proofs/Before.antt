@@ -10,7 +10,7 @@ use mathlib.Core.Bool.{Bool, true, false}
 use lib.Dec.{ltb}
 use borrow.Author.Tests.{ltb-true, ltb-false}
 use Rattle.schedule.specs.Schedules.{Schedule, minute, stretch}
-use Rattle.schedule.proofs.Sums.{lt-cases, sum-none, sum-more, block, block-none, block-add, block-part}
+use Rattle.schedule.proofs.Sums.{lt-cases, sum-none, sum-more, block, block-none, block-add, block-one, block-part}
 use Rattle.schedule.proofs.Stretches.{stretch-block}
 
 module _ (s : Schedule) where
@@ -61,6 +61,9 @@ module _ (s : Schedule) where
 
     pub minute-rise : (i j : ℕ) → i < j → minute s i < minute s j
     minute-rise i j h = omega (arith, minute-mono (i + 1) j (omega arith), minute-more i, later i)
+
+    pub minute-iff : (i j : ℕ) → minute s i < minute s j ↔ i < j
+    minute-iff i j = (λ h. ⊎-elim (λ q. q) (λ q. absurd (omega (arith, minute-mono j i q))) (lt-cases i j), minute-rise i j)
 
     -- the reports before minute t
     pub before : ℕ → ℕ
@@ -123,6 +126,13 @@ module _ (s : Schedule) where
         (λ q. absurd (let r = before-iff (minute s j + 1) (j + 1) .1 q in omega (arith, minute-rise j (j + 1) (omega arith))))
         (λ q. omega arith)
         (lt-cases (j + 1) (before (minute s j + 1)))
+
+    -- the minutes from a report on hold that report, and what the minutes after it hold
+    pub stretch-after : (j w : ℕ) → stretch s (minute s j) (w + 1) ≡ s .size j + stretch s (minute s j + 1) w
+    stretch-after j w =
+        let e : w + 1 ≡ 1 + w = omega arith in
+        let z : j + 1 - j ≡ 1 = omega arith in
+        rw (e, stretch-add (minute s j) 1 w, stretch-before (minute s j) 1, before-minute j, before-next j, z, block-one (s .size) j)
 
     -- The fullest stretches start at a report.
     pub fullest-at-report : (a w : ℕ) → stretch s a w ≤ stretch s (minute s (before a)) w

@@ -2,20 +2,20 @@
 -- in a stretch, and the starts of one round at which the rules need be shown.
 use Prim.Native.Nat.{ℕ, zero, suc, _+_, _-_, _*_, _/_, _%_, _≤_, _<_}
 use native.Mathlib.Omega.{arith}
-use native.Mathlib.Nat.{add-assoc, add-zero, zero-add, add-comm, add-right-comm, suc-mul, zero-mul, mod-add-div', div-add-mod', mod-lt}
+use native.Mathlib.Nat.{add-assoc, add-zero, zero-add, add-right-comm, suc-mul, zero-mul, mod-add-div', div-add-mod', mod-lt}
 use native.Mathlib.Numerals.{add-one}
-use mathlib.Core.Path.{_≡_, refl, sym, _∙_, ap}
+use mathlib.Core.Path.{_≡_, sym, _∙_, ap}
 use mathlib.Core.Logic.{_↔_, ⊎-elim}
 use Rattle.schedule.specs.Schedules.{Schedule, sum, minute, stretch}
-use Rattle.schedule.proofs.Sums.{lt-cases, sum-again, sum-rounds, sum-whole, block, block-none, block-more, block-round}
+use Rattle.schedule.proofs.Sums.{lt-cases, sum-again, sum-whole, block, block-none, block-more, block-round}
 use Rattle.schedule.proofs.Stretches.{stretch-block}
-use Rattle.schedule.proofs.Before.{minute-none, minute-least, minute-rise, before, before-iff, before-le, stretch-before, stretch-add, fullest-at-report, thinnest-after-report}
+use Rattle.schedule.proofs.Before.{minute-least, minute-rise, before, before-iff, before-le, stretch-before, stretch-add, fullest-at-report, thinnest-after-report}
+
+pub minute-again : (s : Schedule) (c : ℕ) → ((i : ℕ) → s .gap (i + c) ≡ s .gap i) → (i : ℕ) → minute s (i + c) ≡ minute s i + minute s c
+unfolding minute
+minute-again s c gap-again i = sum-again (s .gap) c gap-again i
 
 module _ (s : Schedule) (later : (i : ℕ) → 1 ≤ s .gap i) (c : ℕ) (size-again : (i : ℕ) → s .size (i + c) ≡ s .size i) (gap-again : (i : ℕ) → s .gap (i + c) ≡ s .gap i) where
-  pub minute-again : (i : ℕ) → minute s (i + c) ≡ minute s i + minute s c
-  unfolding minute
-  minute-again i = sum-again (s .gap) c gap-again i
-
   -- report j stands where report j % c does, j / c rounds later
   pub minute-first : (j : ℕ) → minute s j ≡ j / c * minute s c + minute s (j % c)
   unfolding minute
@@ -35,7 +35,7 @@ module _ (s : Schedule) (later : (i : ℕ) → 1 ≤ s .gap i) (c : ℕ) (size-a
 
       late : c ≤ i → minute s i < a + minute s c ↔ i < before s later a + c
       late h =
-          let e : minute s i ≡ minute s (i - c) + minute s c = let z : i - c + c ≡ i = omega arith in rw z at (minute-again (i - c)) in
+          let e : minute s i ≡ minute s (i - c) + minute s c = let z : i - c + c ≡ i = omega arith in rw z at (minute-again s c gap-again (i - c)) in
           let r = before-iff s later a (i - c) in
           (λ x. let y = r .0 (omega arith) in omega arith, λ x. let y = r .1 (omega arith) in omega arith)
 
@@ -74,6 +74,14 @@ module _ (s : Schedule) (later : (i : ℕ) → 1 ≤ s .gap i) (c : ℕ) (size-a
   -- a stretch holds its whole rounds times the records of a round, and what the minutes left over hold
   pub stretch-whole : (a w : ℕ) → stretch s a w ≡ w / minute s c * sum (s .size) c + stretch s a (w % minute s c)
   stretch-whole a w = ap (stretch s a) (sym (div-add-mod' w (minute s c))) ∙ stretch-more a (w / minute s c) (w % minute s c)
+
+  -- The whole rounds of all minutes but the last one: 1 minute to one round is then left over.
+  pub stretch-parts : (a w : ℕ) → 1 ≤ w → stretch s a w ≡ (w - 1) / minute s c * sum (s .size) c + stretch s a ((w - 1) % minute s c + 1)
+  stretch-parts a w h =
+      let r = (w - 1) % minute s c in
+      let q = (w - 1) / minute s c in
+      let e : w ≡ q * minute s c + (r + 1) = omega (arith, div-add-mod' (w - 1) (minute s c)) in
+      ap (stretch s a) e ∙ stretch-more a q (r + 1)
 
   module _ (some : 0 < c) where
     -- the supply rule need be shown only at the reports of one round

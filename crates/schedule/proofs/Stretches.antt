@@ -1,5 +1,5 @@
--- A stretch holds the sizes of a block of reports: those that follow the reports before it whatever the numbers
--- lo and hi of the reports before its first minute and before its end.
+-- A stretch holds the sizes of a block of neighbouring reports: from report lo up to, not including, report hi, where lo is the
+-- number of reports before its first minute and hi that of those before its end.
 use Prim.Native.Nat.{ℕ, zero, suc, _+_, _-_, _≤_, _<_, max}
 use native.Mathlib.Omega.{arith}
 use native.Mathlib.Nat.{zero-add}
@@ -29,15 +29,11 @@ module _ (s : Schedule) (a e : ℕ) where
 
 -- Where lo is the number of reports before minute a, and hi that of those before e.
 module _ (s : Schedule) (a e lo hi : ℕ) (before : (i : ℕ) → minute s i < a ↔ i < lo) (until : (i : ℕ) → minute s i < e ↔ i < hi) where
-  minute-more : (i : ℕ) → minute s (i + 1) ≡ minute s i + s .gap i
-  unfolding minute
-  minute-more i = sum-more (s .gap) i
-
   -- what is left from report i on
   rest : ℕ → ℕ
   rest i = block (s .size) (max i lo) (hi - max i lo)
 
-  -- report i counts, or stands beforeIn the stretch
+  -- report i counts, or comes before the stretch
   rest-first : (i : ℕ) → i < hi → cond (leb a (minute s i)) (s .size i) 0 + rest (i + 1) ≡ rest i
   unfolding rest
   rest-first i q = ⊎-elim early counted (lt-cases (minute s i) a)
@@ -58,7 +54,7 @@ module _ (s : Schedule) (a e lo hi : ℕ) (before : (i : ℕ) → minute s i < a
           rw (le-leb _ _ g, x, y, z, block-first (s .size) i (hi - (i + 1)))
 
   from-rest : (n i : ℕ) → hi ≤ i + n → heldFrom s a e n i (minute s i) ≡ rest i
-  unfolding rest
+  unfolding rest minute
   from-rest zero i h =
       let z : hi - max i lo ≡ 0 = omega arith in
       rw (z, heldFrom-none s a e i (minute s i), block-none (s .size) (max i lo))
@@ -67,14 +63,13 @@ module _ (s : Schedule) (a e lo hi : ℕ) (before : (i : ℕ) → minute s i < a
       ⊎-elim
       (λ g.
       let q : i < hi = until i .0 g in
-      rw (← add-one n, heldFrom-more s a e n i (minute s i) (lt-ltb _ _ g), ← minute-more i, ih) (rest-first i q))
+      rw (← add-one n, heldFrom-more s a e n i (minute s i) (lt-ltb _ _ g), ← sum-more (s .gap) i, ih) (rest-first i q))
       (λ g.
       let p : ¬ (i < hi) = λ q. let r : minute s i < e = until i .1 q in omega arith in
       let z : hi - max i lo ≡ 0 = omega arith in
       rw (z, heldFrom-past s a e (suc n) i (minute s i) (le-ltb (minute s i) e g), block-none (s .size) (max i lo)))
       (lt-cases (minute s i) e)
 
--- A stretch is the row of its reports: lo and hi are the numbers of reports before its first minute and before its end.
 pub stretch-block : (s : Schedule) (a w lo hi : ℕ) → ((i : ℕ) → minute s i < a ↔ i < lo) → ((i : ℕ) → minute s i < a + w ↔ i < hi)
     → hi ≤ a + w → stretch s a w ≡ block (s .size) lo (hi - lo)
 unfolding stretch rest minute sum

@@ -11,7 +11,7 @@ use Rattle.spec.proofs.Facts.{facts, between-iff}
 use Rattle.pairs.specs.Pairs.{pairsOf}
 use Rattle.cycle.specs.Check.{countAllowed, gapsAllowed, sizesAllowed, supplyKept}
 use Rattle.cycle.specs.Windows.{Walkable}
-use Rattle.cycle.proofs.Steps.{count-flat, gets-refused, gets-12, gets-13, gets-14, gets-15, gets-16, gets-0, walkable}
+use Rattle.cycle.proofs.Steps.{count-flat, gaps-field, sizes-field, gets-refused, gets-12, gets-13, gets-14, gets-15, gets-16, gets-0, walkable}
 use Rattle.cycle.proofs.check.Statement.{statement}
 use Rattle.cycle.proofs.check.Tie as tie
 
@@ -39,10 +39,10 @@ count : (c : tie.Else2) → countAllowed (pairsOf (start₂ c .args .words .now)
 count c = sym (count-flat (start₂ c .args .words .now)) ∙ counted c
 
 gaps : (c : tie.Else3) → gapsAllowed (start₃ c .args .spec) (pairsOf (start₃ c .args .words .now)) ≡ true
-gaps c = sym (c .before .gaps-allowed .ensures) ∙ not-false _ (c .if3 .left)
+gaps c = sym (c .before .fields-allowed .ensures ∙ gaps-field _ _) ∙ not-false _ (c .if3 .left)
 
 sizes : (c : tie.Else4) → sizesAllowed (start₄ c .args .spec) (pairsOf (start₄ c .args .words .now)) ≡ true
-sizes c = sym (c .before .sizes-allowed .ensures) ∙ not-false _ (c .if4 .left)
+sizes c = sym (c .before .fields-allowed2 .ensures ∙ sizes-field _ _) ∙ not-false _ (c .if4 .left)
 
 supply : (c : tie.Else5) → supplyKept (start₅ c .args .spec .supply) (pairsOf (start₅ c .args .words .now)) ≡ true
 supply c = sym (c .before .supply-kept .ensures) ∙ not-false _ (c .if5 .left)
@@ -61,22 +61,22 @@ returns-2 c =
     gets-12 _ _ (sym (c .before .before .spec-number .ensures) ∙ c .before .if1 .left)
     (sym (count-flat (c .before .before .before .before .args .words .now)) ∙ not-true _ (c .if2 .taken))
 
-gaps-allowed-requires : tie.Need-gaps-allowed-requires
-gaps-allowed-requires c κs = between-iff _ _ _ .0 (counted c) .1
+fields-allowed-requires : tie.Need-fields-allowed-requires
+fields-allowed-requires c κs = (between-iff _ _ _ .0 (counted c) .1, search needs)
 
 returns-3 : tie.Need-returns-3
 returns-3 c =
     let p₂ = c .before .before in
-    gets-13 _ _ (accepted p₂) (count p₂) (sym (c .before .gaps-allowed .ensures) ∙ not-true _ (c .if3 .taken))
+    gets-13 _ _ (accepted p₂) (count p₂) (sym (c .before .fields-allowed .ensures ∙ gaps-field _ _) ∙ not-true _ (c .if3 .taken))
 
-sizes-allowed-requires : tie.Need-sizes-allowed-requires
-sizes-allowed-requires c κs = walks c .few
+fields-allowed-requires-2 : tie.Need-fields-allowed-requires-2
+fields-allowed-requires-2 c κs = (walks c .few, search needs)
 
 returns-4 : tie.Need-returns-4
 returns-4 c =
     let p₃ = c .before .before in
     let p₂ = p₃ .before .before in
-    gets-14 _ _ (accepted p₂) (count p₂) (gaps p₃) (sym (c .before .sizes-allowed .ensures) ∙ not-true _ (c .if4 .taken))
+    gets-14 _ _ (accepted p₂) (count p₂) (gaps p₃) (sym (c .before .fields-allowed2 .ensures ∙ sizes-field _ _) ∙ not-true _ (c .if4 .taken))
 
 supply-kept-requires : tie.Need-supply-kept-requires
 supply-kept-requires c κs = (walks (c .before .before), facts _ (accepted (c .before .before .before .before)) .supply)
@@ -114,9 +114,9 @@ check-spec =
     spec-number-requires
     returns
     returns-2
-    gaps-allowed-requires
+    fields-allowed-requires
     returns-3
-    sizes-allowed-requires
+    fields-allowed-requires-2
     returns-4
     supply-kept-requires
     returns-5

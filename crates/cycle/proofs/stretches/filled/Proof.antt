@@ -5,13 +5,13 @@ use Prim.Native.Nat.{_-_}
 use native.Mathlib.Omega.{arith}
 use mathlib.Core.Path.{_≡_, refl}
 use borrow.Author.Needs.{needs}
-use Rattle.cycle.specs.Windows.{runOf, Holds}
-use Rattle.cycle.proofs.MovingWindow.{holds-with, next-place}
+use Rattle.cycle.specs.Windows.{runOf, Spans}
+use Rattle.cycle.proofs.MovingWindow.{spans-with, next-place}
 use Rattle.cycle.proofs.stretches.filled.Statement.{statement}
 use Rattle.cycle.proofs.stretches.filled.Tie as tie
 
 abbrev Inv-loop : tie.InvT-loop
-Inv-loop words v w₀ w = (w .first ≡ w₀ .first) × Holds (runOf words) v w
+Inv-loop words v w₀ w = (w .first ≡ w₀ .first) × Spans (runOf words) v w
 
 abbrev μ-loop : tie.MeasureT-loop
 μ-loop words v w₀ w = v - w .minutes
@@ -37,7 +37,7 @@ loop-less c =
 
 loop-again : tie.Need-loop-again Inv-loop μ-loop
 loop-again c =
-    rw (c .with .ensures) (c .before .before .before .before .loop .inv .0, holds-with _ _ (c .before .before .before .before .loop .inv .1) (c .before .report-at .ensures) (omega arith))
+    rw (c .with .ensures) (c .before .before .before .before .loop .inv .0, spans-with _ _ (c .before .before .before .before .loop .inv .1) (c .before .report-at .ensures) (omega arith))
 
 returns : tie.Need-returns Inv-loop μ-loop
 returns c = (c .before .before .loop .inv .0, search needs, c .before .before .loop .inv .1)

@@ -4,13 +4,15 @@ use Prim.Native.Nat.{ℕ, _-_, _≤_, _<_}
 use native.Mathlib.Omega.{arith}
 use native.Mathlib.Nat.{mod-lt, mod-le}
 use mathlib.Core.List.{List}
+use lib.ListN.{length}
 use borrow.Author.Needs.{needs}
 use Rattle.pairs.specs.Pairs.{pairsOf}
 use Rattle.pairs.proofs.FlatLists.{length-pairsOf}
+use Rattle.schedule.proofs.Repeats.{stretch-parts}
 use Rattle.cycle.specs.Cycles.{round}
-use Rattle.cycle.specs.Windows.{Walkable}
-use Rattle.cycle.proofs.Runs.{round-some}
-use Rattle.cycle.proofs.Starts.{rounds-most, rounds-fit, stretch-parts}
+use Rattle.cycle.specs.Windows.{runOf, Walkable, roundRecords}
+use Rattle.cycle.proofs.Runs.{gap-again, size-again, round-some}
+use Rattle.cycle.proofs.Starts.{rounds-most, rounds-fit}
 use Rattle.cycle.proofs.stretches.parts_of.Statement.{statement}
 use Rattle.cycle.proofs.stretches.parts_of.Tie as tie
 
@@ -39,6 +41,7 @@ add-t9 : tie.Need-add-t9
 add-t9 c = record { fits = omega (arith, mod-le (c .before .before .before .before .before .args .minutes - 1) (c .before .before .before .round-of .result .minutes)) }
 
 returns : tie.Need-returns
+unfolding round roundRecords
 returns c =
     let start = c .before .before .before .before .before in
     let l = start .args .words .now in
@@ -46,7 +49,7 @@ returns c =
     let r = c .before .before .before .round-of .ensures in
     let some : 0 < c .before .before .before .round-of .result .minutes = omega (arith, some-minutes l ok) in
     record {
-      adds = λ a. rw (r .minutes, r .records) (stretch-parts (pairsOf l) (omega (arith, length-pairsOf l, ok .some)) (ok .later) a _ (start .pre .1));
+      adds = λ a. rw (r .minutes, r .records) (stretch-parts (runOf l) (ok .later) (length (pairsOf l)) (size-again (pairsOf l)) (gap-again (pairsOf l)) a _ (start .pre .1));
       some = omega arith;
       short = omega (arith, mod-lt (start .args .minutes - 1) some);
       rounds-fit = rounds-most _ _ _ (omega arith) (omega arith);

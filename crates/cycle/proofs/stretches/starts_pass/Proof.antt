@@ -11,18 +11,18 @@ use lib.ListN.{length}
 use borrow.Author.Count.{below-more}
 use borrow.Author.Needs.{needs}
 use borrow.Author.Tests.{not-true, not-false}
+use Rattle.numbers.proofs.All.{all-pass, one-fails}
 use Rattle.pairs.proofs.FlatLists.{length-pairsOf}
 use Rattle.schedule.specs.Schedules.{minute, stretch}
-use Rattle.cycle.specs.Windows.{runOf, Holds, passes, startsPass}
-use Rattle.cycle.proofs.Starts.{all-pass, one-fails}
-use Rattle.cycle.proofs.MovingWindow.{holds-none, holds-without, first-inside, first-there, passes-here, past-fits}
+use Rattle.cycle.specs.Windows.{runOf, Spans, rulePasses, startsPass}
+use Rattle.cycle.proofs.MovingWindow.{spans-none, spans-without, first-inside, first-there, passes-here, past-fits}
 use Rattle.cycle.proofs.stretches.starts_pass.Statement.{statement}
 use Rattle.cycle.proofs.stretches.starts_pass.Tie as tie
 
 abbrev Inv-loop : tie.InvT-loop
 Inv-loop words rule minutes count parts w₀ w =
-    (w .first ≤ count) × Holds (runOf words) (parts .rest) w
-    × ((i : ℕ) → i < w .first → passes rule (stretch (runOf words) (minute (runOf words) i) minutes) (runOf words .size i) ≡ true)
+    (w .first ≤ count) × Spans (runOf words) (parts .rest) w
+    × ((i : ℕ) → i < w .first → rulePasses rule (stretch (runOf words) (minute (runOf words) i) minutes) (runOf words .size i) ≡ true)
 
 abbrev μ-loop : tie.MeasureT-loop
 μ-loop words rule minutes count parts w₀ w = count - w .first
@@ -31,7 +31,7 @@ parts-of-requires : tie.Need-parts-of-requires Inv-loop μ-loop
 parts-of-requires c κs = search needs
 
 loop-holds : tie.Need-loop-holds Inv-loop μ-loop
-loop-holds c = (search needs, holds-none _ _, λ i h. absurd (omega arith))
+loop-holds c = (search needs, spans-none _ _, λ i h. absurd (omega arith))
 
 filled-requires : tie.Need-filled-requires Inv-loop μ-loop
 filled-requires c κs = (c .before .before .before .before .before .pre .0, search needs, c .before .before .before .parts-of .ensures .short, c .before .before .loop .inv .1)
@@ -70,7 +70,7 @@ module _ (c : tie.After-rule-passes Inv-loop μ-loop) where
   first-round : first < length l / 2
   first-round = omega (arith, filled .filled .ensures .0, filled .before .if1 .taken)
 
-  judged : c .rule-passes .result ≡ passes (start .args .rule) (stretch (runOf l) (minute (runOf l) first) (start .args .minutes)) (runOf l .size first)
+  judged : c .rule-passes .result ≡ rulePasses (start .args .rule) (stretch (runOf l) (minute (runOf l) first) (start .args .minutes)) (runOf l .size first)
   judged =
       c .rule-passes .ensures
       ∙ passes-here l (start .pre .0) _ (parts .parts-of .ensures) (filled .filled .ensures .2) (filled .filled .ensures .1) (start .args .rule) (c .before .before .before .report-at .ensures)
@@ -98,7 +98,7 @@ loop-again c =
     let at = c .before .before in
     rw (c .without .ensures) (
       omega arith,
-      holds-without _ _ (filled at .filled .ensures .2) (at .before .before .before .report-at .ensures) (there at),
+      spans-without _ _ (filled at .filled .ensures .2) (at .before .before .before .report-at .ensures) (there at),
       below-more _ _ (rw (filled at .filled .ensures .0) (filled at .before .before .before .loop .inv .2)) (sym (judged at) ∙ not-false _ (c .before .if2 .left)),
     )
 

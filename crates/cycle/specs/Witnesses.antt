@@ -1,0 +1,47 @@
+-- What a refusal of the check shows, and what a stretch of whole rounds holds, for every cycle. Proved in proofs/Witnesses.antt and
+-- proofs/Rounds.antt. No function and no demand rests on it.
+use Prim.Native.Nat.{ℕ, _+_, _*_, _/_, _%_, _≤_, _<_}
+use mathlib.Core.Path.{_≡_}
+use mathlib.Core.List.{List}
+use mathlib.Core.Bool.{false}
+use lib.ListN.{length}
+use Rattle.spec.specs.declared.Rate.{Rate}
+use Rattle.spec.specs.declared.Rate.the-variants.{Absent, Present}
+use Rattle.spec.specs.declared.Spec.{Spec}
+use Rattle.spec.specs.Limits.{sizeAllowed, gapAllowed}
+use Rattle.pairs.specs.declared.Pair.{Pair}
+use Rattle.schedule.specs.Schedules.{Schedule, stretch}
+use Rattle.cycle.specs.Cycles.{pairGap, pairSize, cycleRun, round}
+use Rattle.cycle.specs.Check.{checkNumber}
+use Rattle.cycle.specs.Windows.{roundRecords}
+
+-- some stretch of R minutes holds more than B records
+abbrev pub TooFull : Rate → Schedule → Type 0
+TooFull Absent s = ⊥
+TooFull (Present b r) s = (a : ℕ) × (b < stretch s a r)
+
+-- some stretch of P minutes holds fewer than L records
+abbrev pub TooThin : Rate → Schedule → Type 0
+TooThin Absent s = ⊥
+TooThin (Present l p) s = (a : ℕ) × (stretch s a p < l)
+
+-- Each number from 13 on has its witness: a pair whose gap or whose size is not allowed, a stretch that is too full or too thin.
+abbrev pub GapRefused : Type 0
+GapRefused = (spec : Spec) (ps : List Pair) → checkNumber spec ps ≡ 13 → (j : ℕ) × ((j < length ps) × (gapAllowed spec (pairGap ps j) ≡ false))
+
+abbrev pub SizeRefused : Type 0
+SizeRefused = (spec : Spec) (ps : List Pair) → checkNumber spec ps ≡ 14 → (j : ℕ) × ((j < length ps) × (sizeAllowed spec (pairSize ps j) ≡ false))
+
+abbrev pub SupplyRefused : Type 0
+SupplyRefused = (spec : Spec) (ps : List Pair) → checkNumber spec ps ≡ 15 → TooFull (spec .supply) (cycleRun ps)
+
+abbrev pub DemandRefused : Type 0
+DemandRefused = (spec : Spec) (ps : List Pair) → checkNumber spec ps ≡ 16 → TooThin (spec .demand) (cycleRun ps)
+
+-- For every cycle with no gap 0, a stretch holds its whole rounds times the records of a round, and what the minutes left over,
+-- fewer than a round's, hold.
+abbrev pub WholeRounds : Type 0
+WholeRounds =
+    (ps : List Pair) → 1 ≤ length ps → ((j : ℕ) → j < length ps → 1 ≤ pairGap ps j) → (a w : ℕ)
+    → (w % round ps < round ps)
+    × (stretch (cycleRun ps) a w ≡ w / round ps * roundRecords ps + stretch (cycleRun ps) a (w % round ps))
