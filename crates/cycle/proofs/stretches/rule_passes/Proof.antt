@@ -19,10 +19,10 @@ add-result : tie.Need-add-result
 add-result c = search needs
 
 returns : tie.Need-returns
-returns c = cc
+returns c = rw (c .before .before .rule .given .1, c .wide .ensures .0)
 
 returns-2 : tie.Need-returns-2
-returns-2 c = cc
+returns-2 c = rw (c .before .before .rule2 .given .1, c .wide2 .ensures .0)
 
 pub rule-passes-spec : {M : Type 1} → statement M
 rule-passes-spec =
