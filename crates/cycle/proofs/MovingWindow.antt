@@ -7,10 +7,11 @@ use mathlib.Core.Logic.{_↔_, ⊎-elim}
 use mathlib.Core.List.{List}
 use lib.ListN.{length}
 use borrow.Author.Count.{below-more}
+use Rattle.numbers.proofs.Cases.{lt-cases}
 use Rattle.pairs.specs.Pairs.{pairsOf}
 use Rattle.pairs.proofs.FlatLists.{length-pairsOf}
 use Rattle.schedule.specs.Schedules.{Schedule, sum, minute, stretch}
-use Rattle.schedule.proofs.Sums.{lt-cases, sum-more, sum-add, block}
+use Rattle.schedule.proofs.Sums.{sum-more, sum-add, block}
 use Rattle.schedule.proofs.Stretches.{stretch-block}
 use Rattle.schedule.proofs.Before.{minute-more, minute-mono, minute-least, minute-iff}
 use Rattle.schedule.proofs.Repeats.{minute-again}

@@ -9,8 +9,9 @@ use mathlib.Core.Logic.{_↔_, ⊎-elim}
 use mathlib.Core.Bool.{Bool, true, false}
 use lib.Dec.{ltb}
 use borrow.Author.Tests.{ltb-true, ltb-false}
+use Rattle.numbers.proofs.Cases.{lt-cases}
 use Rattle.schedule.specs.Schedules.{Schedule, minute, stretch}
-use Rattle.schedule.proofs.Sums.{lt-cases, sum-none, sum-more, block, block-none, block-add, block-one, block-part}
+use Rattle.schedule.proofs.Sums.{sum-none, sum-more, block, block-none, block-add, block-one, block-part}
 use Rattle.schedule.proofs.Stretches.{stretch-block}
 
 module _ (s : Schedule) where

@@ -6,8 +6,9 @@ use native.Mathlib.Nat.{add-assoc, add-zero, zero-add, add-right-comm, suc-mul, 
 use native.Mathlib.Numerals.{add-one}
 use mathlib.Core.Path.{_≡_, sym, _∙_, ap}
 use mathlib.Core.Logic.{_↔_, ⊎-elim}
+use Rattle.numbers.proofs.Cases.{lt-cases}
 use Rattle.schedule.specs.Schedules.{Schedule, sum, minute, stretch}
-use Rattle.schedule.proofs.Sums.{lt-cases, sum-again, sum-whole, block, block-none, block-more, block-round}
+use Rattle.schedule.proofs.Sums.{sum-again, sum-whole, block, block-none, block-more, block-round}
 use Rattle.schedule.proofs.Stretches.{stretch-block}
 use Rattle.schedule.proofs.Before.{minute-least, minute-rise, before, before-iff, before-le, stretch-before, stretch-add, fullest-at-report, thinnest-after-report}
 

@@ -8,8 +8,9 @@ use mathlib.Core.Path.{_≡_, sym, _∙_}
 use mathlib.Core.Logic.{⊎-elim}
 use mathlib.Core.Bool.{and-false, and-true}
 use borrow.Author.Tests.{lt-ltb, le-ltb}
+use Rattle.numbers.proofs.Cases.{lt-cases}
 use Rattle.schedule.specs.Schedules.{Schedule, sum, minute, heldFrom, stretch, share, StretchIsSum}
-use Rattle.schedule.proofs.Sums.{lt-cases, sum-add, sum-block, block, block-none, block-more, block-first}
+use Rattle.schedule.proofs.Sums.{sum-add, sum-block, block, block-none, block-more, block-first}
 use Rattle.schedule.proofs.Stretches.{heldFrom-none, heldFrom-past, heldFrom-more}
 use Rattle.schedule.proofs.Before.{minute-least, minute-more, minute-mono}
 

@@ -9,8 +9,9 @@ use mathlib.Core.Logic.{_↔_, ⊎-elim}
 use mathlib.Core.Bool.{true, false, cond}
 use lib.Dec.{leb, ltb}
 use borrow.Author.Tests.{lt-ltb, le-ltb, le-leb, lt-leb}
+use Rattle.numbers.proofs.Cases.{lt-cases}
 use Rattle.schedule.specs.Schedules.{Schedule, sum, minute, heldFrom, stretch}
-use Rattle.schedule.proofs.Sums.{lt-cases, sum-more, block, block-none, block-first}
+use Rattle.schedule.proofs.Sums.{sum-more, block, block-none, block-first}
 
 module _ (s : Schedule) (a e : ℕ) where
   pub heldFrom-none : (i t : ℕ) → heldFrom s a e 0 i t ≡ 0

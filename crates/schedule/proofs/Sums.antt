@@ -4,13 +4,10 @@ use Prim.Native.Nat.{ℕ, zero, suc, _+_, _-_, _*_, _/_, _%_, _≤_, _<_}
 use native.Mathlib.Omega.{arith}
 use native.Mathlib.Nat.{add-assoc, add-zero, zero-add, add-comm, add-right-comm, suc-mul, zero-mul, mod-add-div'}
 use native.Mathlib.Numerals.{add-one}
-use native.Mathlib.Decide.{decLt}
 use mathlib.Core.Path.{_≡_, refl, _∙_}
-use mathlib.Core.Logic.{_⊎_, inl, inr}
+-- for the crates above, which take it from here
+pub use Rattle.numbers.proofs.Cases.{lt-cases}
 use Rattle.schedule.specs.Schedules.{sum}
-
-pub lt-cases : (a b : ℕ) → (a < b) ⊎ (b ≤ a)
-lt-cases a b = elim (decLt a b) [ yes h ↦ inl h | no h ↦ inr (omega arith) ]
 
 pub sum-none : (f : ℕ → ℕ) → sum f 0 ≡ 0
 unfolding sum

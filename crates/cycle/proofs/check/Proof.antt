@@ -6,6 +6,7 @@ use mathlib.Core.Bool.{true}
 use lib.ListN.{length}
 use borrow.Author.Needs.{needs}
 use borrow.Author.Tests.{not-true, not-false}
+use Rattle.numbers.proofs.Negated.{held, failed}
 use Rattle.spec.specs.Limits.{IsAccepted, between}
 use Rattle.spec.proofs.Facts.{facts, between-iff}
 use Rattle.pairs.specs.Pairs.{pairsOf}
@@ -39,13 +40,13 @@ count : (c : tie.Else2) → countAllowed (pairsOf (start₂ c .args .words .now)
 count c = sym (count-flat (start₂ c .args .words .now)) ∙ counted c
 
 gaps : (c : tie.Else3) → gapsAllowed (start₃ c .args .spec) (pairsOf (start₃ c .args .words .now)) ≡ true
-gaps c = sym (c .before .fields-allowed .ensures ∙ gaps-field _ _) ∙ not-false _ (c .if3 .left)
+gaps c = held (c .before .fields-allowed .ensures ∙ gaps-field _ _) (c .if3 .left)
 
 sizes : (c : tie.Else4) → sizesAllowed (start₄ c .args .spec) (pairsOf (start₄ c .args .words .now)) ≡ true
-sizes c = sym (c .before .fields-allowed2 .ensures ∙ sizes-field _ _) ∙ not-false _ (c .if4 .left)
+sizes c = held (c .before .fields-allowed2 .ensures ∙ sizes-field _ _) (c .if4 .left)
 
 supply : (c : tie.Else5) → supplyKept (start₅ c .args .spec .supply) (pairsOf (start₅ c .args .words .now)) ≡ true
-supply c = sym (c .before .supply-kept .ensures) ∙ not-false _ (c .if5 .left)
+supply c = held (c .before .supply-kept .ensures) (c .if5 .left)
 
 walks : (c : tie.Else3) → Walkable (start₃ c .args .words .now)
 walks c = walkable _ _ (accepted (c .before .before)) (counted (c .before .before)) (gaps c)
@@ -67,7 +68,7 @@ fields-allowed-requires c κs = (between-iff _ _ _ .0 (counted c) .1, search nee
 returns-3 : tie.Need-returns-3
 returns-3 c =
     let p₂ = c .before .before in
-    gets-13 _ _ (accepted p₂) (count p₂) (sym (c .before .fields-allowed .ensures ∙ gaps-field _ _) ∙ not-true _ (c .if3 .taken))
+    gets-13 _ _ (accepted p₂) (count p₂) (failed (c .before .fields-allowed .ensures ∙ gaps-field _ _) (c .if3 .taken))
 
 fields-allowed-requires-2 : tie.Need-fields-allowed-requires-2
 fields-allowed-requires-2 c κs = (walks c .few, search needs)
@@ -76,7 +77,7 @@ returns-4 : tie.Need-returns-4
 returns-4 c =
     let p₃ = c .before .before in
     let p₂ = p₃ .before .before in
-    gets-14 _ _ (accepted p₂) (count p₂) (gaps p₃) (sym (c .before .fields-allowed2 .ensures ∙ sizes-field _ _) ∙ not-true _ (c .if4 .taken))
+    gets-14 _ _ (accepted p₂) (count p₂) (gaps p₃) (failed (c .before .fields-allowed2 .ensures ∙ sizes-field _ _) (c .if4 .taken))
 
 supply-kept-requires : tie.Need-supply-kept-requires
 supply-kept-requires c κs = (walks (c .before .before), facts _ (accepted (c .before .before .before .before)) .supply)
@@ -86,7 +87,7 @@ returns-5 c =
     let p₄ = c .before .before in
     let p₃ = p₄ .before .before in
     let p₂ = p₃ .before .before in
-    gets-15 _ _ (accepted p₂) (count p₂) (gaps p₃) (sizes p₄) (sym (c .before .supply-kept .ensures) ∙ not-true _ (c .if5 .taken))
+    gets-15 _ _ (accepted p₂) (count p₂) (gaps p₃) (sizes p₄) (failed (c .before .supply-kept .ensures) (c .if5 .taken))
 
 demand-met-requires : tie.Need-demand-met-requires
 demand-met-requires c κs = walks (c .before .before .before .before)
@@ -97,7 +98,7 @@ returns-6 c =
     let p₄ = p₅ .before .before in
     let p₃ = p₄ .before .before in
     let p₂ = p₃ .before .before in
-    gets-16 _ _ (accepted p₂) (count p₂) (gaps p₃) (sizes p₄) (supply p₅) (sym (c .before .demand-met .ensures) ∙ not-true _ (c .if6 .taken))
+    gets-16 _ _ (accepted p₂) (count p₂) (gaps p₃) (sizes p₄) (supply p₅) (failed (c .before .demand-met .ensures) (c .if6 .taken))
 
 returns-7 : tie.Need-returns-7
 returns-7 c =
@@ -105,7 +106,7 @@ returns-7 c =
     let p₄ = p₅ .before .before in
     let p₃ = p₄ .before .before in
     let p₂ = p₃ .before .before in
-    gets-0 _ _ (accepted p₂) (count p₂) (gaps p₃) (sizes p₄) (supply p₅) (sym (c .before .demand-met .ensures) ∙ not-false _ (c .if6 .left))
+    gets-0 _ _ (accepted p₂) (count p₂) (gaps p₃) (sizes p₄) (supply p₅) (held (c .before .demand-met .ensures) (c .if6 .left))
 
 pub check-spec : {M : Type 1} → statement M
 check-spec =

@@ -1,12 +1,12 @@
 -- `fields_allowed` meets its contract. The invariant: the field of every pair passed is allowed.
 use Prim.Native.Nat.{ℕ, _-_, _≤_, _<_}
 use native.Mathlib.Omega.{arith}
-use mathlib.Core.Path.{_≡_, sym, _∙_}
+use mathlib.Core.Path.{_≡_}
 use mathlib.Core.Bool.{true}
 use borrow.Author.Count.{below-more}
-use borrow.Author.Tests.{not-true, not-false}
 use borrow.Author.Needs.{needs}
 use Rattle.numbers.proofs.All.{all-pass, one-fails}
+use Rattle.numbers.proofs.Negated.{held, failed}
 use Rattle.pairs.specs.Pairs.{pairsOf}
 use Rattle.pairs.proofs.FlatLists.{length-pairsOf}
 use Rattle.cycle.specs.Windows.{field, fieldAllowed, fieldsAllowed}
@@ -51,7 +51,7 @@ returns : tie.Need-returns Inv-loop μ-loop
 unfolding fieldsAllowed
 returns c =
     let l = c .before .before .before .before .before .before .args .words .now in
-    one-fails _ _ (c .before .before .before .before .loop .j) (omega (arith, length-pairsOf l)) (sym (judged (c .before)) ∙ not-true _ (c .if1 .taken))
+    one-fails _ _ (c .before .before .before .before .loop .j) (omega (arith, length-pairsOf l)) (failed (judged (c .before)) (c .if1 .taken))
 
 add-j : tie.Need-add-j Inv-loop μ-loop
 add-j c = search needs
@@ -60,7 +60,7 @@ loop-less : tie.Need-loop-less Inv-loop μ-loop
 loop-less c = search needs
 
 loop-again : tie.Need-loop-again Inv-loop μ-loop
-loop-again c = (search needs, below-more _ _ (c .before .before .before .before .loop .inv .1) (sym (judged (c .before)) ∙ not-false _ (c .if1 .left)))
+loop-again c = (search needs, below-more _ _ (c .before .before .before .before .loop .inv .1) (held (judged (c .before)) (c .if1 .left)))
 
 returns-2 : tie.Need-returns-2 Inv-loop μ-loop
 unfolding fieldsAllowed

@@ -4,14 +4,14 @@
 -- is then let go; its end stays, for no stretch ends before the one that started a report earlier.
 use Prim.Native.Nat.{ℕ, _-_, _/_, _≤_, _<_}
 use native.Mathlib.Omega.{arith}
-use mathlib.Core.Path.{_≡_, sym, _∙_}
+use mathlib.Core.Path.{_≡_, _∙_}
 use mathlib.Core.Bool.{true}
 use mathlib.Core.List.{List}
 use lib.ListN.{length}
 use borrow.Author.Count.{below-more}
 use borrow.Author.Needs.{needs}
-use borrow.Author.Tests.{not-true, not-false}
 use Rattle.numbers.proofs.All.{all-pass, one-fails}
+use Rattle.numbers.proofs.Negated.{held, failed}
 use Rattle.pairs.proofs.FlatLists.{length-pairsOf}
 use Rattle.schedule.specs.Schedules.{minute, stretch}
 use Rattle.cycle.specs.Windows.{runOf, Spans, rulePasses, startsPass}
@@ -82,7 +82,7 @@ returns : tie.Need-returns Inv-loop μ-loop
 unfolding startsPass
 returns c =
     let at = c .before in
-    one-fails _ _ (first at) (omega (arith, first-round at, length-pairsOf (l at))) (sym (judged at) ∙ not-true _ (c .if2 .taken))
+    one-fails _ _ (first at) (omega (arith, first-round at, length-pairsOf (l at))) (failed (judged at) (c .if2 .taken))
 
 without-requires : tie.Need-without-requires Inv-loop μ-loop
 without-requires c κs =
@@ -99,7 +99,7 @@ loop-again c =
     rw (c .without .ensures) (
       omega arith,
       spans-without _ _ (filled at .filled .ensures .2) (at .before .before .before .report-at .ensures) (there at),
-      below-more _ _ (rw (filled at .filled .ensures .0) (filled at .before .before .before .loop .inv .2)) (sym (judged at) ∙ not-false _ (c .before .if2 .left)),
+      below-more _ _ (rw (filled at .filled .ensures .0) (filled at .before .before .before .loop .inv .2)) (held (judged at) (c .before .if2 .left)),
     )
 
 returns-2 : tie.Need-returns-2 Inv-loop μ-loop
