@@ -13,7 +13,7 @@ use Rattle.spec.specs.File.{readNumber}
 use Rattle.pairs.specs.declared.Pair.{Pair}
 use Rattle.pairs.specs.Pairs.{unpacked, flatPairs}
 use Rattle.pairs.proofs.Unpacked.{flat-of-few, flat-of-many}
-use Rattle.schedule.proofs.Sums.{lt-cases}
+use Rattle.numbers.proofs.Cases.{lt-cases}
 use Rattle.cycle.specs.Check.{countAllowed, cycleNumber, checkNumber, checkFileNumber}
 use Rattle.cycle.specs.Statements.{FlatSameNumber}
 

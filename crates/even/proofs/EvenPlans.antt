@@ -19,7 +19,7 @@ use Rattle.spec.specs.File.{readSpec, ifRead}
 use Rattle.spec.proofs.GoingOn.{goes-on, went-on}
 use Rattle.spec.proofs.Facts.{facts, leb-iff, gap-allowed-pos, gap-allowed-top, gap-top-high}
 use Rattle.schedule.specs.Rules.{Obeys}
-use Rattle.schedule.proofs.Sums.{lt-cases}
+use Rattle.numbers.proofs.Cases.{lt-cases}
 use Rattle.plan.specs.declared.Plan.{Plan}
 use Rattle.plan.specs.Plans.{proper, run, kindRun}
 use Rattle.plan.proofs.Proper.{ProperBounds, proper-kind}

@@ -10,7 +10,7 @@ use borrow.Author.Tests.{leb-true, le-leb}
 use Rattle.spec.specs.declared.Rate.{Rate}
 use Rattle.spec.specs.declared.Rate.the-variants.{Absent, Present}
 use Rattle.spec.specs.declared.Spec.{Spec}
-use Rattle.schedule.proofs.Sums.{lt-cases}
+use Rattle.numbers.proofs.Cases.{lt-cases}
 use Rattle.even.specs.Even.{countAt, totalOf, demandFits, supplyFits, fits}
 use Rattle.even.specs.Search.{nextGap}
 use Rattle.numbers.proofs.Ceilings.{ceil-falls}

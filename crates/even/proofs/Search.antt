@@ -7,7 +7,7 @@ use mathlib.Core.Bool.{Bool, true, false, _&&_, and-false}
 use borrow.Author.Tests.{le-leb, lt-leb}
 use Rattle.spec.specs.declared.Spec.{Spec}
 use Rattle.spec.specs.Limits.{between, gapAllowed, gapTop}
-use Rattle.schedule.proofs.Sums.{lt-cases}
+use Rattle.numbers.proofs.Cases.{lt-cases}
 use Rattle.even.specs.Even.{fits, largest, evenGap}
 use Rattle.even.specs.Search.{evenGapIn, nextGap}
 use Rattle.even.proofs.Jumps.{next-gap-less, next-gap-skips}

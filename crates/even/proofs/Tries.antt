@@ -12,7 +12,7 @@ use Rattle.spec.specs.declared.Rate.{Rate}
 use Rattle.spec.specs.declared.Rate.the-variants.{Absent, Present}
 use Rattle.spec.specs.Limits.{rateLimits}
 use Rattle.spec.proofs.Facts.{facts, leb-iff}
-use Rattle.schedule.proofs.Sums.{lt-cases}
+use Rattle.numbers.proofs.Cases.{lt-cases}
 use Rattle.even.specs.Search.{nextGap, tries, FewTries}
 use Rattle.even.proofs.Jumps.{next-gap-less}
 

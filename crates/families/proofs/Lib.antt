@@ -1,4 +1,3 @@
-pub mod Fronts
 pub mod Figures
 pub mod Plans
 pub mod Schedules

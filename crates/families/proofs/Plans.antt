@@ -11,7 +11,7 @@ use Rattle.spec.specs.declared.Rates.{Rates}
 use Rattle.spec.specs.Limits.{sizeAllowed, gapAllowed}
 use Rattle.spec.proofs.KnownRates.{Known}
 use Rattle.spec.proofs.Facts.{facts, leb-iff, size-allowed-iff, gap-allowed-iff}
-use Rattle.schedule.proofs.Sums.{lt-cases}
+use Rattle.numbers.proofs.Cases.{lt-cases}
 use Rattle.plan.specs.declared.Kind.the-variants.{WellFormed}
 use Rattle.plan.specs.declared.Plan.{Plan}
 use Rattle.plan.specs.Plans.{proper, run, kindRun, planOf}

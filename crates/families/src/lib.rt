@@ -1,7 +1,7 @@
 // The two families of schedules for k reports, with their supply figures (document 01, "Schedules from document 000"). Refusals 3 to 6.
-use numbers::ceil_div;
 use numbers::larger;
 use numbers::smaller;
+use plan::Counted;
 use plan::Kind;
 use plan::Plan;
 use spec::BothRates;
@@ -78,31 +78,24 @@ fn plan_for(f: Family, s: Spec, q: Rates, k: u32) -> Plan
     }
 }
 
-// What the first x minutes hold, x at most a period: the reports before minute x are those whose number is below two quotients, and
-// the larger sizes come first.
-fn front_held(plan: Plan, x: u64) -> u64
-    requires { ⌜ (proper plan ≡ true) × (plan .kind ≡ WellFormed) × (x ≤ plan .period) ⌝ }
+// What minutes 0 to x - 1 hold. A proper plan is not refused.
+fn held_before(plan: Plan, x: u32) -> u64
+    requires { ⌜ proper plan ≡ true ⌝ }
     ensures { λ v. ⌜ v ≡ stretch (run plan) 0 x ⌝ }
 {
-    let k = plan.count as u64;
-    let period = plan.period as u64;
-    let total = plan.total as u64;
-    let gap = period / k;
-    let longer = period % k;
-    let shorter = k - longer;
-    let reports = smaller(ceil_div(x, gap), ceil_div(x + shorter, gap + 1));
-    reports * (total / k) + smaller(reports, total % k)
+    let held = plan::records_before(plan, x);
+    match held {
+        Counted::Count(records) => records,
+        Counted::Refused(_) => 0,
+    }
 }
 
-// What minutes 0 to r - 1 hold: whole periods, and the front of one.
+// What minutes 0 to r - 1 hold.
 fn required_supply(plan: Plan, r: u16) -> u32
     requires { ⌜ (proper plan ≡ true) × (plan .kind ≡ WellFormed) ⌝ }
     ensures { λ v. ⌜ v ≡ required plan r ⌝ }
 {
-    let minutes = r as u64;
-    let period = plan.period as u64;
-    let total = plan.total as u64;
-    (minutes / period * total + front_held(plan, minutes % period)) as u32
+    held_before(plan, r as u32) as u32
 }
 
 // The least that a stretch of p minutes holds: that which ends with a period. Together with the front that it leaves out it is
@@ -111,10 +104,10 @@ fn available_supply(plan: Plan, p: u16) -> u32
     requires { ⌜ (proper plan ≡ true) × (plan .kind ≡ WellFormed) ⌝ }
     ensures { λ v. ⌜ v ≡ available plan p ⌝ }
 {
-    let minutes = p as u64;
-    let period = plan.period as u64;
-    let total = plan.total as u64;
-    ((minutes / period + 1) * total - front_held(plan, period - minutes % period)) as u32
+    let minutes = p as u32;
+    let period = plan.period;
+    let front = held_before(plan, period - minutes % period);
+    ((minutes / period + 1) as u64 * plan.total as u64 - front) as u32
 }
 
 fn supply_figure(f: Family, q: Rates, plan: Plan) -> u32

@@ -8,7 +8,7 @@ use mathlib.Core.Logic.{⊎-elim}
 use mathlib.Core.Bool.{Bool, true, false, cond}
 use borrow.Author.Tests.{ltb-true, ltb-false}
 use Rattle.spec.specs.declared.Spec.{Spec}
-use Rattle.schedule.proofs.Sums.{lt-cases}
+use Rattle.numbers.proofs.Cases.{lt-cases}
 use Rattle.plan.specs.declared.Plan.{Plan}
 use Rattle.families.specs.declared.Family.{Family}
 use Rattle.families.specs.declared.Family.the-variants.{MinimumDemand, MaximumSupply}

@@ -9,7 +9,7 @@ use mathlib.Core.Logic.{_↔_, ⊎-elim}
 use mathlib.Core.Bool.{Bool, true, false, and-eq-true-iff}
 use Rattle.spec.specs.declared.Spec.{Spec}
 use Rattle.spec.proofs.Facts.{facts, leb-iff}
-use Rattle.schedule.proofs.Sums.{lt-cases}
+use Rattle.numbers.proofs.Cases.{lt-cases}
 use Rattle.families.specs.declared.Family.{Family}
 use Rattle.families.specs.declared.Family.the-variants.{MinimumDemand, MaximumSupply}
 use Rattle.spec.specs.declared.Rates.{Rates}

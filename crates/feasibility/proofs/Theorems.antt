@@ -12,7 +12,7 @@ use Rattle.spec.specs.Rates.{started, ifRates}
 use Rattle.spec.proofs.GoingOn.{started-both}
 use Rattle.spec.proofs.KnownRates.{known}
 use Rattle.schedule.specs.Rules.{Obeys}
-use Rattle.schedule.proofs.Sums.{lt-cases}
+use Rattle.numbers.proofs.Cases.{lt-cases}
 use Rattle.plan.specs.declared.Plan.{Plan}
 use Rattle.plan.specs.Plans.{proper, run}
 use Rattle.consistency.specs.Consistency.{consistencyOf}

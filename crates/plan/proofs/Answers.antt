@@ -1,14 +1,19 @@
--- The cases of `reportOf`, by what the code has found.
+-- The cases of `reportOf`, of `countOf` and of the records of the first n reports, by what the code has found.
 use Prim.Native.Nat.{ℕ, _*_, _/_}
-use mathlib.Core.Path.{_≡_, refl}
+use native.Mathlib.Omega.{arith}
+use mathlib.Core.Path.{_≡_}
 use mathlib.Core.Bool.{true, false}
 use Rattle.schedule.specs.Schedules.{sum, minute}
 use Rattle.schedule.proofs.Sums.{sum-const}
 use Rattle.plan.specs.declared.Kind.the-variants.{WellFormed, Even}
 use Rattle.plan.specs.declared.Plan.{Plan}
 use Rattle.plan.specs.declared.Reported.the-variants.{At, Refused}
-use Rattle.plan.specs.Plans.{proper, run, kindRun, wellGap, wellSize, evenSize}
+use Rattle.plan.specs.declared.Counted.the-variants.{Count, Refused as NotCounted}
+use Rattle.plan.specs.Plans.{proper, run, kindRun, wellGap, wellSize, evenFirst, evenSize}
 use Rattle.plan.specs.Reports.{reportOf}
+use Rattle.plan.specs.Counts.{countOf}
+use Rattle.plan.proofs.Proper.{proper-bounds}
+use Rattle.plan.proofs.EvenSizes.{even-sum}
 
 module _ (p : Plan) (i : ℕ) where
   pub not-proper : proper p ≡ false → Refused 11 ≡ reportOf p i
@@ -23,3 +28,30 @@ module _ (p : Plan) (i : ℕ) where
     pub even-reported : p .kind ≡ Even → m ≡ i * (p .period / p .count) → d ≡ evenSize (p .count) (p .total) i → At m d ≡ reportOf p i
     unfolding reportOf run kindRun minute
     even-reported k em ed = rw (ok, em, ed, k, sum-const (p .period / p .count) i)
+
+module _ (p : Plan) (n : ℕ) where
+  pub not-counted : proper p ≡ false → NotCounted 11 ≡ countOf p n
+  unfolding countOf
+  not-counted e = rw e
+
+  pub counted : proper p ≡ true → {x : ℕ} → x ≡ n → Count x ≡ countOf p n
+  unfolding countOf
+  counted ok e = rw (ok, e)
+
+  -- what the caller of a count has of it
+  pub count-told : proper p ≡ true → {x : ℕ} → countOf p n ≡ Count x → x ≡ n
+  unfolding countOf
+  count-told ok e = let told : Count n ≡ Count _ = rw ok at e in cc
+
+  pub count-never : proper p ≡ true → {r : ℕ} → countOf p n ≡ NotCounted r → ⊥
+  unfolding countOf
+  count-never ok e = let told : Count n ≡ NotCounted _ = rw ok at e in let z : _≡_ {A = ℕ} 0 1 = cc in omega arith
+
+module _ (p : Plan) (n : ℕ) {x : ℕ} where
+  pub well-held : p .kind ≡ WellFormed → x ≡ sum (wellSize (p .count) (p .total)) n → x ≡ sum (run p .size) n
+  unfolding run kindRun
+  well-held k e = rw (k, e)
+
+  pub even-held : proper p ≡ true → p .kind ≡ Even → x ≡ evenFirst (p .count) (p .total) n → x ≡ sum (run p .size) n
+  unfolding run kindRun
+  even-held ok k e = rw (k, e, even-sum (p .count) (p .total) (proper-bounds p ok .some) n)

@@ -2,4 +2,9 @@ pub mod Proper
 pub mod Periods
 pub mod WellFormed
 pub mod EvenSizes
+pub mod Counting
+pub mod Minutes
+pub mod Extremes
+pub mod Runs
+pub mod PlanCounts
 pub mod Answers

@@ -1,28 +1,40 @@
--- Sums of numbers f i = q + x (i % k), a quotient and an extra that repeats, where X v = x 0 + .. + x (v - 1) within a period. Two such
--- sums against the sum over both counts differ by X alone.
+-- Numbers f i = q + x (i % k), a quotient and an extra that repeats after k, and their sums, where X v = x 0 + .. + x (v - 1) within a
+-- period. Two such sums against the sum over both counts differ by X alone.
 use Prim.Native.Nat.{ℕ, zero, suc, _+_, _-_, _*_, _/_, _%_, _≤_, _<_}
 use native.Mathlib.Omega.{arith}
-use native.Mathlib.Nat.{add-mul, suc-mul, zero-mul, mul-add-mod-self-right, mod-eq-of-lt, mod-lt, div-add-mod'}
+use native.Mathlib.Nat.{add-comm, add-mul, zero-mul, one-mul, add-mod-right, mod-eq-of-lt, mod-lt, div-add-mod'}
 use native.Mathlib.Numerals.{add-one}
 use mathlib.Core.Path.{_≡_, _∙_, ap}
 use mathlib.Core.Logic.{_⊎_, inl, inr, ⊎-elim}
 use Rattle.schedule.specs.Schedules.{sum}
-use Rattle.schedule.proofs.Sums.{lt-cases, sum-none, sum-add, block, block-none, block-more}
+use Rattle.numbers.proofs.Cases.{lt-cases}
+use Rattle.schedule.proofs.Sums.{sum-none, sum-more, sum-rounds}
 
-module _ (k q : ℕ) (x X f : ℕ → ℕ) (pos : 0 < k) (none : X 0 ≡ 0) (more : (v : ℕ) → v < k → X (v + 1) ≡ X v + x v) (each : (i : ℕ) → f i ≡ q + x (i % k)) where
-  row : (u v : ℕ) → v ≤ k → block f (u * k) v ≡ v * q + X v
-  row u zero h = omega (arith, block-none f (u * k), none, zero-mul q)
-  row u (suc v) h =
-      let m : (u * k + v) % k ≡ v = mul-add-mod-self-right u k v ∙ mod-eq-of-lt (omega arith) in
-      let e : f (u * k + v) ≡ q + x v = each (u * k + v) ∙ ap (λ (y : ℕ). q + x y) m in
-      rw (← add-one v) (omega (arith, block-more f (u * k) v, row u v (omega arith), e, more v (omega arith), add-mul v 1 q))
+pub record Spread (k q : ℕ) (x X f : ℕ → ℕ) : Type 0 where
+  pub none : X 0 ≡ 0
+  pub more : (v : ℕ) → v < k → X (v + 1) ≡ X v + x v
+  pub each : (i : ℕ) → f i ≡ q + x (i % k)
 
-  turns : (u : ℕ) → sum f (u * k) ≡ u * (k * q + X k)
-  turns zero = rw (zero-mul, zero-mul) (sum-none f)
-  turns (suc u) = rw (suc-mul, suc-mul, sum-add f (u * k) k, turns u, row u k (omega arith))
+module _ {k q : ℕ} {x X f : ℕ → ℕ} (pos : 0 < k) (d : Spread k q x X f) where
+  pub again : (i : ℕ) → f (i + k) ≡ f i
+  again i = rw (d .each (i + k), d .each i, add-mod-right)
 
+  -- within a period
+  pub sum-in : (v : ℕ) → v ≤ k → sum f v ≡ v * q + X v
+  sum-in zero h = omega (arith, sum-none f, d .none, zero-mul q)
+  sum-in (suc v) h =
+      let m : v % k ≡ v = mod-eq-of-lt (omega arith) in
+      let e : f v ≡ q + x v = d .each v ∙ ap (λ (y : ℕ). q + x y) m in
+      rw (← add-one v) (omega (arith, sum-more f v, sum-in v (omega arith), e, d .more v (omega arith), add-mul v 1 q, one-mul q))
+
+  -- whole periods, and what is left
   pub sum-at : (u v : ℕ) → v ≤ k → sum f (u * k + v) ≡ u * (k * q + X k) + (v * q + X v)
-  sum-at u v h = rw (sum-add f (u * k) v, turns u, row u v h)
+  sum-at u v h =
+      rw (add-comm (u * k) v, sum-rounds f k again v u, sum-in v h, sum-in k (omega arith))
+      (add-comm (v * q + X v) (u * (k * q + X k)))
+
+  pub sum-of : (n : ℕ) → sum f n ≡ n / k * (k * q + X k) + (n % k * q + X (n % k))
+  sum-of n = rw (div-add-mod' n k) at (sum-at (n / k) (n % k) (omega (arith, mod-lt n pos)))
 
   below : (u v : ℕ) → v < k → sum f (u * k + v) ≡ u * (k * q + X k) + v * q + X v
   below u v h = omega (arith, sum-at u v (omega arith))
@@ -55,15 +67,13 @@ module _ (k q : ℕ) (x X f : ℕ → ℕ) (pos : 0 < k) (none : X 0 ≡ 0) (mor
       let s₂ : v₂ < k = mod-lt n pos in
       let e₁ : u₁ * k + v₁ ≡ j = div-add-mod' j k in
       let e₂ : u₂ * k + v₂ ≡ n = div-add-mod' n k in
-      let a₁ : sum f j ≡ u₁ * t + (v₁ * q + X v₁) = rw e₁ at (sum-at u₁ v₁ (omega arith)) in
-      let a₂ : sum f n ≡ u₂ * t + (v₂ * q + X v₂) = rw e₂ at (sum-at u₂ v₂ (omega arith)) in
       record {
         common = (u₁ + u₂) * t + (v₁ + v₂) * q;
         v₁ = v₁;
         v₂ = v₂;
         small₁ = s₁;
         small₂ = s₂;
-        two = omega (arith, add-mul u₁ u₂ t, add-mul v₁ v₂ q);
+        two = omega (arith, sum-of j, sum-of n, add-mul u₁ u₂ t, add-mul v₁ v₂ q);
         one =
             let e : j + n ≡ (u₁ + u₂) * k + (v₁ + v₂) = omega (arith, add-mul u₁ u₂ k) in
             ⊎-elim

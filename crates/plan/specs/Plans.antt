@@ -42,9 +42,12 @@ wellSize k δ i = δ / k + cond (ltb (i % k) (δ % k)) 1 0
 unfoldable pub wellGap : ℕ → ℕ → ℕ → ℕ
 wellGap k π i = π / k + cond (leb (k - π % k) (i % k)) 1 0
 
--- Even kind: "Size of report i: ⌊(i + 1) × δ/k⌋ − ⌊i × δ/k⌋."
+-- Even kind: "Size of report i: ⌊(i + 1) × δ/k⌋ − ⌊i × δ/k⌋.", what the first i + 1 reports hold less what the first i hold
+unfoldable pub evenFirst : ℕ → ℕ → ℕ → ℕ
+evenFirst k δ n = n * δ / k
+
 unfoldable pub evenSize : ℕ → ℕ → ℕ → ℕ
-evenSize k δ i = (i + 1) * δ / k - i * δ / k
+evenSize k δ i = evenFirst k δ (i + 1) - evenFirst k δ i
 
 -- for the even kind "Every gap is π/k."
 unfoldable pub kindRun : Kind → ℕ → ℕ → ℕ → Schedule

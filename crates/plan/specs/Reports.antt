@@ -10,8 +10,3 @@ use Rattle.plan.specs.Plans.{proper, run}
 -- report i of the plan's endless run, or the refusal
 unfoldable pub reportOf : Plan → ℕ → Reported
 reportOf p i = cond (proper p) (At (minute (run p) i) (run p .size i)) (Refused 11)
-
--- the number of a refusal, 0 where there is a report
-abbrev pub reportNumber : Reported → ℕ
-reportNumber (At m d) = 0
-reportNumber (Refused n) = n

@@ -1,12 +1,14 @@
-// Plans: k reports in a period of so many minutes with so many records, of one of two kinds; whether a plan is proper, and the
-// minute and size of each report of its endless run, in constant time (document 01, "Schedules from document 000"). Refusal 11.
-// How a plan is found is left to the crates above.
+// Plans: k reports in a period of so many minutes with so many records, of one of two kinds; whether a plan is proper, the minute
+// and size of each report of its endless run, and how many reports and records lie before a minute, in constant time (document 01,
+// "Schedules from document 000"). Refusal 11. How a plan is found is left to the crates above.
 use spec::refusal;
 ghost use mathlib.Core.Path.{_≡_};
+ghost use mathlib.Core.Bool.{true};
 ghost use Prim.Native.Nat.{_+_, _-_, _*_, _≤_, _<_, _^_};
-ghost use Rattle.schedule.specs.Schedules.{sum};
-ghost use Rattle.plan.specs.Plans.{proper, wellGap, wellSize, evenSize};
+ghost use Rattle.schedule.specs.Schedules.{sum, stretch};
+ghost use Rattle.plan.specs.Plans.{proper, run, wellGap, wellSize, evenFirst, evenSize};
 ghost use Rattle.plan.specs.Reports.{reportOf};
+ghost use Rattle.plan.specs.Counts.{reportsBefore, countOf};
 
 pub enum Kind {
     WellFormed,
@@ -24,6 +26,12 @@ pub struct Plan {
 // Minute and size of a report, or the number of the refusal.
 pub enum Reported {
     At { minute: u64, size: u32 },
+    Refused(u32),
+}
+
+// How many, or the number of the refusal.
+pub enum Counted {
+    Count(u64),
     Refused(u32),
 }
 
@@ -86,12 +94,29 @@ fn well_size(k: u64, total: u64, i: u64) -> u64
     }
 }
 
+// What the first n reports of the well-formed kind hold: whole periods, and the rest, of which the first are larger.
+fn well_first(k: u64, total: u64, n: u64) -> u64
+    requires { ⌜ (1 ≤ k) × (k ≤ 20160) × (total < 2 ^ 25) × (n ≤ 2 ^ 32) ⌝ }
+    ensures { λ r. ⌜ r ≡ sum (wellSize k total) n ⌝ }
+{
+    let j = n % k;
+    n / k * total + (j * (total / k) + numbers::smaller(j, total % k))
+}
+
+// What the first n reports of the even kind hold.
+fn even_first(k: u64, total: u64, n: u64) -> u64
+    requires { ⌜ (1 ≤ k) × (total < 2 ^ 25) × (n ≤ 2 ^ 32) ⌝ }
+    ensures { λ r. ⌜ r ≡ evenFirst k total n ⌝ }
+{
+    n * total / k
+}
+
 // The size of report i of the even kind.
 fn even_size(k: u64, total: u64, i: u64) -> u64
     requires { ⌜ (1 ≤ k) × (total < 2 ^ 25) × (i < 2 ^ 32) ⌝ }
     ensures { λ r. ⌜ (r ≡ evenSize k total i) × (r ≤ total + 1) ⌝ }
 {
-    (i + 1) * total / k - i * total / k
+    even_first(k, total, i + 1) - even_first(k, total, i)
 }
 
 // Minute and size of report i of the plan's endless run.
@@ -116,4 +141,64 @@ pub fn report(p: Plan, i: u32) -> Reported
             size: even_size(k, total, n) as u32,
         },
     }
+}
+
+// What the first n reports of a proper plan hold.
+fn held_by_first(p: Plan, n: u64) -> u64
+    requires { ⌜ (proper p ≡ true) × (n ≤ 2 ^ 32) ⌝ }
+    ensures { λ r. ⌜ r ≡ sum (run p .size) n ⌝ }
+{
+    let kind = p.kind;
+    let k = p.count as u64;
+    let total = p.total as u64;
+    match kind {
+        Kind::WellFormed => well_first(k, total, n),
+        Kind::Even => even_first(k, total, n),
+    }
+}
+
+// How many reports of a proper plan lie before minute m: those of whole periods, and in the last one those whose number is below two
+// quotients, one by the shorter gap and one by the longer. The even kind has no longer gap.
+fn count_before(p: Plan, m: u64) -> u64
+    requires { ⌜ proper p ≡ true ⌝ }
+    ensures { λ r. ⌜ (r ≡ reportsBefore (run p) m) × (r ≤ m) ⌝ }
+{
+    let k = p.count as u64;
+    let period = p.period as u64;
+    let gap = period / k;
+    let shorter = k - period % k;
+    let left = m % period;
+    let by_shorter = numbers::ceil_div(left, gap);
+    let by_longer = numbers::ceil_div(left + shorter, gap + 1);
+    m / period * k + numbers::smaller(by_shorter, by_longer)
+}
+
+// How many reports lie before minute m, or refusal 11.
+pub fn reports_before(p: Plan, m: u32) -> Counted
+    ensures { λ r. ⌜ r ≡ countOf p (reportsBefore (run p) m) ⌝ }
+{
+    if !is_proper(p) {
+        return Counted::Refused(refusal::NOT_PROPER);
+    }
+    Counted::Count(count_before(p, m as u64))
+}
+
+// How many records the first n reports hold, or refusal 11.
+pub fn records_of_first(p: Plan, n: u32) -> Counted
+    ensures { λ r. ⌜ r ≡ countOf p (sum (run p .size) n) ⌝ }
+{
+    if !is_proper(p) {
+        return Counted::Refused(refusal::NOT_PROPER);
+    }
+    Counted::Count(held_by_first(p, n as u64))
+}
+
+// How many records lie before minute m, what minutes 0 to m - 1 hold, or refusal 11.
+pub fn records_before(p: Plan, m: u32) -> Counted
+    ensures { λ r. ⌜ r ≡ countOf p (stretch (run p) 0 m) ⌝ }
+{
+    if !is_proper(p) {
+        return Counted::Refused(refusal::NOT_PROPER);
+    }
+    Counted::Count(held_by_first(p, count_before(p, m as u64)))
 }

@@ -19,7 +19,7 @@ use Rattle.schedule.specs.Schedules.{Schedule, sum, minute, heldFrom, stretch}
 use Rattle.plan.specs.declared.Plan.{Plan}
 use Rattle.plan.specs.declared.Reported.{Reported}
 use Rattle.plan.specs.declared.Reported.the-variants.{At, Refused as NotReported}
-use Rattle.plan.specs.Plans.{proper, run, kindRun, wellSize, wellGap, evenSize}
+use Rattle.plan.specs.Plans.{proper, run, kindRun, wellSize, wellGap, evenFirst, evenSize}
 use Rattle.plan.specs.Reports.{reportOf}
 use Rattle.consistency.specs.Consistency.{consistencyOf, conditionsOf, boundsFitRates, sizeFitsBudget, gapFitsDemand, demandFitsDuration, fewestReportsFitBudget, enoughReportsForDemand, supplyCoversDemand, whereRate, whereRange}
 use Rattle.families.specs.declared.Family.the-variants.{MinimumDemand, MaximumSupply}
@@ -185,5 +185,5 @@ samplesHold (x ∷ xs) = claimsHold (x .spec) (x .claims) && samplesHold xs
 
 -- Every value of the table is what the definitions compute.
 pub samples-hold : samplesHold samples ≡ true
-unfolding samplesHold samples sample cycle claimsHold claimHolds same answerIs reportIs reportsAre scheduleReports wellFormed even evenReportsAre sameRate sameRange readTo specNumber limits order rateLimits rangeLimits rangeOrder sizeAllowed gapAllowed gapTop readSpec ifAccepted started sum minute heldFrom stretch proper run kindRun wellSize wellGap evenSize reportOf consistencyOf conditionsOf boundsFitRates sizeFitsBudget gapFitsDemand demandFitsDuration fewestReportsFitBudget enoughReportsForDemand supplyCoversDemand whereRate whereRange ceil scheduleFor bothRates ratesFrom scheduled exists planFor supplyFigure required available least testOf testConsistent testTaken figurePasses taken lastCount takenUpTo betterOf isBetter familyOf evenPlan planOr10 evenPlanAt evenGap largest fits supplyFits demandFits totalOf countAt pairGap pairSize cycleRun round checkNumber cycleNumber countAllowed gapsAllowed sizesAllowed supplyKept demandMet all
+unfolding samplesHold samples sample cycle claimsHold claimHolds same answerIs reportIs reportsAre scheduleReports wellFormed even evenReportsAre sameRate sameRange readTo specNumber limits order rateLimits rangeLimits rangeOrder sizeAllowed gapAllowed gapTop readSpec ifAccepted started sum minute heldFrom stretch proper run kindRun wellSize wellGap evenFirst evenSize reportOf consistencyOf conditionsOf boundsFitRates sizeFitsBudget gapFitsDemand demandFitsDuration fewestReportsFitBudget enoughReportsForDemand supplyCoversDemand whereRate whereRange ceil scheduleFor bothRates ratesFrom scheduled exists planFor supplyFigure required available least testOf testConsistent testTaken figurePasses taken lastCount takenUpTo betterOf isBetter familyOf evenPlan planOr10 evenPlanAt evenGap largest fits supplyFits demandFits totalOf countAt pairGap pairSize cycleRun round checkNumber cycleNumber countAllowed gapsAllowed sizesAllowed supplyKept demandMet all
 samples-hold = refl

@@ -1,0 +1,125 @@
+-- The endless run of a proper plan. The even kind has k dividing π, so it has no longer gap: the gaps of both kinds are those of the
+-- well-formed one. Of both, sizes and gaps repeat after k reports, which take π minutes and hold δ records.
+use Prim.Native.Nat.{ℕ, _+_, _-_, _*_, _/_, _%_, _≤_, _<_}
+use native.Mathlib.Omega.{arith}
+use native.Mathlib.Nat.{add-zero, mod-lt, mul-comm, le-mul-of-pos-right, le-trans, mul-le-mul-right}
+use mathlib.Core.Path.{_≡_, refl, sym, _∙_}
+use mathlib.Core.Bool.{true}
+use borrow.Author.Tests.{lt-leb, eqb-true}
+use Rattle.schedule.specs.Schedules.{sum, minute, stretch}
+use Rattle.schedule.proofs.Sums.{sum-same, sum-block, block-most}
+use Rattle.schedule.proofs.Before.{before, before-le, stretch-before, stretch-longer}
+use Rattle.schedule.proofs.Repeats.{stretch-round, stretch-first, stretch-whole}
+use Rattle.plan.specs.declared.Kind.{Kind}
+use Rattle.plan.specs.declared.Kind.the-variants.{WellFormed, Even}
+use Rattle.plan.specs.declared.Plan.{Plan}
+use Rattle.plan.specs.Plans.{proper, run, kindRun, kindFits, wellGap}
+use Rattle.plan.proofs.Proper.{ProperBounds, proper-bounds, proper-rest}
+use Rattle.plan.proofs.WellFormed.{size-again, size-total, size-range, size-sub, gap-again, gap-total, gap-range, gap-super}
+use Rattle.plan.proofs.EvenSizes.{even-again, even-round, even-size-most}
+use Rattle.plan.proofs.Extremes.{fullest-first, thinnest-last}
+
+module _ (k π δ : ℕ) (pos : 0 < k) where
+  kind-gap : (t : Kind) → kindFits t k π ≡ true → (i : ℕ) → kindRun t k π δ .gap i ≡ wellGap k π i
+  unfolding kindRun wellGap
+  kind-gap WellFormed e i = refl
+  kind-gap Even e i =
+      let z : π % k ≡ 0 = eqb-true _ _ e in
+      rw (lt-leb (k - π % k) (i % k) (omega (arith, mod-lt i pos)), add-zero)
+
+  kind-again : (t : Kind) (i : ℕ) → kindRun t k π δ .size (i + k) ≡ kindRun t k π δ .size i
+  unfolding kindRun
+  kind-again WellFormed i = size-again k pos δ i
+  kind-again Even i = even-again k δ pos i
+
+  kind-total : (t : Kind) → sum (kindRun t k π δ .size) k ≡ δ
+  unfolding kindRun
+  kind-total WellFormed = size-total k pos δ
+  kind-total Even = sum-block _ k ∙ even-round k δ pos 0
+
+  kind-most : (t : Kind) (b : ℕ) → δ ≤ k * b → (i : ℕ) → kindRun t k π δ .size i ≤ b
+  unfolding kindRun
+  kind-most WellFormed b h i = size-range k pos δ 0 b (omega arith) h i .1
+  kind-most Even b h i = even-size-most k δ pos b i h
+
+module _ (p : Plan) (ok : proper p ≡ true) where
+  abbrev k : ℕ
+  k = p .count
+
+  abbrev π : ℕ
+  π = p .period
+
+  abbrev δ : ℕ
+  δ = p .total
+
+  known : ProperBounds p
+  known = proper-bounds p ok
+
+  pub run-gap : (i : ℕ) → run p .gap i ≡ wellGap k π i
+  unfolding run
+  run-gap i = kind-gap k π δ (known .some) (p .kind) (sym (proper-rest p known) ∙ ok) i
+
+  pub run-later : (i : ℕ) → 1 ≤ run p .gap i
+  run-later i =
+      rw (run-gap i) (gap-range k (known .some) π 1 π (omega (arith, known .long)) (rw mul-comm (le-mul-of-pos-right π (known .some))) i .0)
+
+  pub run-gap-again : (i : ℕ) → run p .gap (i + k) ≡ run p .gap i
+  run-gap-again i = rw (run-gap (i + k), run-gap i) (gap-again k (known .some) π i)
+
+  pub run-size-again : (i : ℕ) → run p .size (i + k) ≡ run p .size i
+  unfolding run
+  run-size-again i = kind-again k π δ (known .some) (p .kind) i
+
+  -- a period's minutes and records
+  pub run-period : minute (run p) k ≡ π
+  unfolding minute
+  run-period = sum-same (run p .gap) (wellGap k π) k (λ i h. run-gap i) ∙ gap-total k (known .some) π
+
+  pub run-total : sum (run p .size) k ≡ δ
+  unfolding run
+  run-total = kind-total k π δ (known .some) (p .kind)
+
+  pub period-total : (a : ℕ) → stretch (run p) a π ≡ δ
+  period-total a = rw (run-period, run-total) at (stretch-round (run p) run-later k run-size-again run-gap-again a)
+
+  -- whole periods, and what is left
+  pub stretch-periods : (a w : ℕ) → stretch (run p) a w ≡ w / π * δ + stretch (run p) a (w % π)
+  stretch-periods a w = simp (run-period, run-total) at (stretch-whole (run p) run-later k run-size-again run-gap-again a w)
+
+  -- every stretch is like one that starts in the first period
+  pub stretch-start : (a w : ℕ) → stretch (run p) a w ≡ stretch (run p) (a % π) w
+  stretch-start a w = rw run-period at (stretch-first (run p) run-later k run-size-again run-gap-again a w)
+
+  -- a part of a period holds at most δ, and more than one at least δ
+  pub held-within : (a w : ℕ) → w ≤ π → stretch (run p) a w ≤ δ
+  held-within a w h = omega (arith, stretch-longer (run p) run-later a w π h, period-total a)
+
+  pub held-beyond : (a w : ℕ) → π ≤ w → δ ≤ stretch (run p) a w
+  held-beyond a w h = omega (arith, stretch-longer (run p) run-later a π w h, period-total a)
+
+  -- no report is larger than 1,000 records, and no two are at one minute
+  pub held-most : (x : ℕ) → stretch (run p) 0 x ≤ x * 1000
+  unfolding run
+  held-most x =
+      let n : before (run p) run-later (0 + x) - before (run p) run-later 0 ≤ x = omega (arith, before-le (run p) run-later (0 + x)) in
+      let sizes = kind-most k π δ (known .some) (p .kind) 1000 (omega (arith, known .light, mul-comm k 1000)) in
+      rw (stretch-before (run p) run-later 0 x)
+      (le-trans (block-most (run p .size) 1000 sizes (before (run p) run-later 0) (before (run p) run-later (0 + x) - before (run p) run-later 0)) (mul-le-mul-right 1000 n))
+
+  -- of the well-formed kind the fullest stretches are the first, and the thinnest end with a period
+  module _ (well : p .kind ≡ WellFormed) where
+    sub : (j n : ℕ) → sum (run p .size) (j + n) ≤ sum (run p .size) j + sum (run p .size) n
+    unfolding run kindRun
+    sub j n = rw well (size-sub k (known .some) δ j n)
+
+    super : (j n : ℕ) → sum (run p .gap) j + sum (run p .gap) n ≤ sum (run p .gap) (j + n)
+    unfolding run kindRun
+    super j n = rw well (gap-super k (known .some) π j n)
+
+    pub front-fullest : (a w : ℕ) → stretch (run p) a w ≤ stretch (run p) 0 w
+    front-fullest = fullest-first (run p) run-later sub super
+
+    pub back-thinnest : (w u : ℕ) → w ≤ u * π → (a : ℕ) → stretch (run p) (u * π - w) w ≤ stretch (run p) a w
+    back-thinnest w u h =
+        rw run-period at
+        (thinnest-last (run p) run-later sub super k run-size-again run-gap-again w u (rw run-period h) (rw run-period (omega (arith, known))))
