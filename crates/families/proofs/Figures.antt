@@ -13,9 +13,8 @@ use Rattle.plan.specs.declared.Kind.the-variants.{WellFormed}
 use Rattle.plan.specs.declared.Plan.{Plan}
 use Rattle.plan.specs.Plans.{proper, run}
 use Rattle.plan.proofs.Proper.{proper-bounds}
-use Rattle.plan.proofs.Runs.{run-later, period-total, stretch-periods, stretch-start, held-within as within-period, held-beyond as beyond-period, held-most, front-fullest, back-thinnest}
+use Rattle.plan.proofs.Runs.{run-later, period-total, stretch-periods, stretch-start, held-within, held-most, front-fullest, back-thinnest}
 use Rattle.families.specs.Families.{required, least, available}
-pub use Rattle.plan.proofs.Proper.{numbers}
 
 -- the least of f 0, .., f n is at most each of them, and at least whatever is at most all
 least-le : (f : ℕ → ℕ) (n i : ℕ) → i ≤ n → least f n ≤ f i
@@ -38,13 +37,6 @@ module _ (p : Plan) (ok : proper p ≡ true) (well : p .kind ≡ WellFormed) whe
 
   abbrev δ : ℕ
   δ = p .total
-
-  -- a part of a period holds at most δ, and more than one at least δ
-  pub held-within : (a w : ℕ) → w ≤ π → stretch (run p) a w ≤ δ
-  held-within = within-period p ok
-
-  pub held-beyond : (a w : ℕ) → π ≤ w → δ ≤ stretch (run p) a w
-  held-beyond = beyond-period p ok
 
   pub required-fullest : (r a : ℕ) → stretch (run p) a r ≤ required p r
   unfolding required
@@ -92,7 +84,7 @@ module _ (p : Plan) (ok : proper p ≡ true) (well : p .kind ≡ WellFormed) whe
         omega (arith, available-held, period-total p ok 0, stretch-periods p ok (π - m % π) m, add-mul (m / π) 1 δ, one-mul δ)
 
     pub front-fits : stretch (run p) 0 (π - m % π) ≤ (m / π + 1) * δ
-    front-fits = omega (arith, held-within 0 (π - m % π) (omega arith), add-mul (m / π) 1 δ, one-mul δ)
+    front-fits = omega (arith, held-within p ok 0 (π - m % π) (omega arith), add-mul (m / π) 1 δ, one-mul δ)
 
     pub available-most : available p m ≤ m * 1000
     available-most = le-trans (available-least 0) (held-most p ok m)

@@ -16,7 +16,8 @@ use Rattle.families.specs.declared.Family.the-variants.{MinimumDemand, MaximumS
 use Rattle.spec.specs.declared.Rates.{Rates}
 use Rattle.families.specs.Families.{planFor, supplyFigure}
 use Rattle.feasibility.specs.Test.{figurePasses}
-use Rattle.families.proofs.Figures.{required-fullest, available-least, held-within, held-beyond}
+use Rattle.plan.proofs.Runs.{held-within, held-beyond}
+use Rattle.families.proofs.Figures.{required-fullest, available-least}
 use Rattle.families.proofs.Plans.{plan-sizes, plan-gaps}
 use Rattle.families.proofs.Schedules.{FoundAt}
 
@@ -27,12 +28,12 @@ module _ (s : Spec) (q : Rates) (k : ℕ) (plan : Plan) (v : ℕ) where
   supply-kept MinimumDemand x h a =
       le-trans (required-fullest plan (x .ok) (x .well) (q .r) a) (rw (x .at .figure) (leb-true _ _ h))
   supply-kept MaximumSupply x h a =
-      le-trans (held-within plan (x .ok) (x .well) a (q .r) (rw (← x .at .is) (le-max-right _ _))) (rw (← x .at .is) (min-le-right _ _))
+      le-trans (held-within plan (x .ok) a (q .r) (rw (← x .at .is) (le-max-right _ _))) (rw (← x .at .is) (min-le-right _ _))
 
   demand-met : (f : Family) → FoundAt f s q k plan v → figurePasses f q v ≡ true → (a : ℕ) → q .l ≤ stretch (run plan) a (q .p)
   unfolding figurePasses supplyFigure planFor
   demand-met MinimumDemand x h a =
-      le-trans (rw (← x .at .is) (le-max-right _ _)) (held-beyond plan (x .ok) (x .well) a (q .p) (rw (← x .at .is) (min-le-right _ _)))
+      le-trans (rw (← x .at .is) (le-max-right _ _)) (held-beyond plan (x .ok) a (q .p) (rw (← x .at .is) (min-le-right _ _)))
   demand-met MaximumSupply x h a =
       le-trans (rw (x .at .figure) (leb-true _ _ h)) (available-least plan (x .ok) (x .well) (q .p) a)
 

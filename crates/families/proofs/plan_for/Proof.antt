@@ -3,7 +3,7 @@ use native.Mathlib.Omega.{arith}
 use Rattle.spec.proofs.KnownRates.{known}
 use Rattle.families.specs.declared.Family.the-variants.{MinimumDemand, MaximumSupply}
 use Rattle.families.specs.Families.{planFor}
-use Rattle.families.proofs.Figures.{numbers}
+use Rattle.plan.proofs.Proper.{numbers}
 use Rattle.families.proofs.Plans.{plan-proper}
 use borrow.Author.Needs.{needs}
 use Rattle.families.proofs.plan_for.Statement.{statement}
