@@ -1,6 +1,6 @@
 -- The three demands as theorems, for every specification, cycle, plan and file. That each function gives what its definition says is
 -- its own contract; here is what the definitions promise. `demands` of proofs/Demands.antt proves all of it.
-use Prim.Native.Nat.{ℕ, _/_, _≤_, _<_}
+use Prim.Native.Nat.{ℕ, _+_, _/_, _≤_, _<_}
 use mathlib.Core.Path.{_≡_}
 use mathlib.Core.Logic.{_↔_, _⊎_}
 use mathlib.Core.Bool.{true}
@@ -13,7 +13,7 @@ use Rattle.spec.specs.Rates.{bothRates}
 use Rattle.spec.specs.declared.SpecRead.the-variants.{Accepted, Refused as NotRead}
 use Rattle.spec.specs.Limits.{IsAccepted}
 use Rattle.spec.specs.File.{readSpec}
-use Rattle.schedule.specs.Schedules.{minute, stretch, StretchIsSum}
+use Rattle.schedule.specs.Schedules.{Schedule, sum, minute, stretch, share}
 use Rattle.schedule.specs.Rules.{Obeys}
 use Rattle.plan.specs.declared.Plan.{Plan}
 use Rattle.plan.specs.declared.Reported.the-variants.{At}
@@ -50,7 +50,7 @@ pub record Demands : Type 0 where
   -- 2. The figures are those that document 01 defines, over every stretch and every k.
 
   -- a stretch holds, summed, the sizes of the reports at its minutes, however many reports are looked at: every stretch below is such a sum
-  pub stretch-sum : StretchIsSum
+  pub stretch-sum : (s : Schedule) → ((i : ℕ) → 1 ≤ s .gap i) → (a w more : ℕ) → stretch s a w ≡ sum (share s a w) (a + w + more)
   -- the required supply is what minutes 0 to R - 1 hold, and no stretch of R minutes holds more
   pub required-supply : (s : Spec) (q : Rates) (k : ℕ) (p : Plan) (v : ℕ) → bothRates s ≡ Both q → scheduleFor MinimumDemand s k ≡ ScheduleOf p v
       → (stretch (run p) 0 (q .r) ≡ v) × ((a : ℕ) → stretch (run p) a (q .r) ≤ v)

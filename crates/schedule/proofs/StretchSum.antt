@@ -9,7 +9,7 @@ use mathlib.Core.Logic.{⊎-elim}
 use mathlib.Core.Bool.{and-false, and-true}
 use borrow.Author.Tests.{lt-ltb, le-ltb}
 use Rattle.numbers.proofs.Cases.{lt-cases}
-use Rattle.schedule.specs.Schedules.{Schedule, sum, minute, heldFrom, stretch, share, StretchIsSum}
+use Rattle.schedule.specs.Schedules.{Schedule, sum, minute, heldFrom, stretch, share}
 use Rattle.schedule.proofs.Sums.{sum-add, sum-block, block, block-none, block-more, block-first}
 use Rattle.schedule.proofs.Stretches.{heldFrom-none, heldFrom-past, heldFrom-more}
 use Rattle.schedule.proofs.Before.{minute-least, minute-more, minute-mono}
@@ -46,6 +46,6 @@ unfolding stretch minute sum
 stretch-sum s a w = rows s a w (a + w) 0 ∙ sym (sum-block (share s a w) (a + w))
 
 -- Where no gap is 0, however many reports more are looked at, none of them adds anything.
-pub stretch-is-sum : StretchIsSum
+pub stretch-is-sum : (s : Schedule) → ((i : ℕ) → 1 ≤ s .gap i) → (a w more : ℕ) → stretch s a w ≡ sum (share s a w) (a + w + more)
 stretch-is-sum s later a w more =
     rw (sum-add (share s a w) (a + w) more, nothing s a w (a + w) more (minute-least s later (a + w)), add-zero) (stretch-sum s a w)

@@ -29,14 +29,10 @@ heldFrom s a e (suc n) i t =
 -- What the stretch of w minutes from a holds: minutes a to a + w - 1.
 -- "A gap of 0 is below every range, so no stretch need be summed there": where no gap is 0, report i is at minute i or later,
 -- so every report of those minutes is among the first a + w. It walks the reports with their minutes carried along, so that
--- it computes; `StretchIsSum` below says that it is the plain sum.
+-- it computes; `stretch-sum` of the demands' page says that it is the plain sum of what the reports add (`share`).
 unfoldable pub stretch : Schedule → ℕ → ℕ → ℕ
 stretch s a w = heldFrom s a (a + w) (a + w) 0 0
 
 -- what report i adds to the stretch of w minutes from a: its size where its minute is one of them
 unfoldable pub share : Schedule → ℕ → ℕ → ℕ → ℕ
 share s a w i = cond (leb a (minute s i) && ltb (minute s i) (a + w)) (s .size i) 0
-
--- A stretch of any length from any start is the plain sum of what the reports add to it: of the first a + w, or of any number more.
-abbrev pub StretchIsSum : Type 0
-StretchIsSum = (s : Schedule) → ((i : ℕ) → 1 ≤ s .gap i) → (a w more : ℕ) → stretch s a w ≡ sum (share s a w) (a + w + more)
