@@ -71,28 +71,33 @@ fn both_rates(size: (u64, u64), gap: (u64, u64), supply: (u64, u64), demand: (u6
     Spec { size, gap, supply: Some(supply), demand: Some(demand), duration: None }
 }
 
-/// 512 pairs whose gaps and sizes change from pair to pair, within the specification's ranges.
-fn changing(spec: &Spec) -> Vec<Pair> {
+/// So many pairs whose gaps and sizes change from pair to pair, within the specification's ranges.
+fn changing(spec: &Spec, count: u64) -> Vec<Pair> {
     let within = |range: (u64, u64), i: u64| (range.0 + i % (range.1 - range.0 + 1)) as u16;
-    (0..512u64).map(|i| Pair { gap: within(spec.gap, i * 7 + i / 5), size: within(spec.size, i * 3) }).collect()
+    (0..count).map(|i| Pair { gap: within(spec.gap, i * 7 + i / 5), size: within(spec.size, i * 3) }).collect()
 }
 
 fn cycles() {
     let wide = (1, 20_160);
     let inputs = [
-        ("gaps 1 to 5, R = P = 20,160", both_rates((1, 3), (1, 5), (20_000, 20_160), wide)),
-        ("gaps 1 to 5, R = P = 100", both_rates((1, 3), (1, 5), (1_000, 100), (1, 100))),
-        ("gaps 30 to 90, R = P = 20,160", both_rates((1, 9), (30, 90), (20_000, 20_160), wide)),
-        ("gaps 15,000 to 20,160, R = P = 20,160", both_rates((1, 1_000), (15_000, 20_160), (20_000, 20_160), wide)),
-        ("gaps 1 and sizes 1, R = 20,000, P = 1", both_rates((1, 1), (1, 1), (20_000, 20_000), (1, 1))),
+        (512, "512 pairs, gaps 1 to 5, R = P = 20,160", both_rates((1, 3), (1, 5), (20_000, 20_160), wide)),
+        (512, "512 pairs, gaps 1 to 5, R = P = 100", both_rates((1, 3), (1, 5), (1_000, 100), (1, 100))),
+        (512, "512 pairs, gaps 30 to 90, R = P = 20,160", both_rates((1, 9), (30, 90), (20_000, 20_160), wide)),
+        (
+            512,
+            "512 pairs, gaps 15,000 to 20,160, R = P = 20,160",
+            both_rates((1, 1_000), (15_000, 20_160), (20_000, 20_160), wide),
+        ),
+        (512, "512 pairs, gaps 1 and sizes 1, R = 20,000, P = 1", both_rates((1, 1), (1, 1), (20_000, 20_000), (1, 1))),
+        (1, "1 pair, gaps 30 to 90, R = P = 20,160", both_rates((1, 9), (30, 90), (20_000, 20_160), wide)),
     ];
-    for (name, spec) in inputs {
-        let pairs = changing(&spec);
+    for (count, name, spec) in inputs {
+        let pairs = changing(&spec, count);
         let (spec_file, cycle_file) = (spec::write(&spec), file::write(&pairs, usize::MAX).unwrap());
         let places = RefCell::new(vec![Pair { gap: 0, size: 0 }; 512]);
         let bytes = RefCell::new(vec![0; cycle_file.len()]);
         line(
-            &format!("verdict, 512 pairs, {name}"),
+            &format!("verdict, {name}"),
             |calls| calls.verdict(&spec_file, &cycle_file),
             || reference::verdict(&spec_file, &cycle_file),
         );

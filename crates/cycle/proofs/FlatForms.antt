@@ -1,38 +1,36 @@
--- The number of a list of pairs by its flat form, and by what reading a specification's file gave.
-use Prim.Native.Nat.{ℕ, _<_}
-use mathlib.Core.Path.{_≡_, refl}
+-- The number of a list of pairs by a flat form that holds it, and by what reading a specification's file gave.
+use Prim.Native.Nat.{ℕ, _*_, _<_}
+use mathlib.Core.Path.{_≡_, sym, ap, _∙_}
 use mathlib.Core.Logic.{⊎-elim}
 use mathlib.Core.Bool.{and-false}
 use mathlib.Core.List.{List, []}
-use lib.ListN.{length}
+use lib.ListN.{length, take}
 use borrow.Author.Tests.{lt-leb}
 use Rattle.spec.specs.declared.Spec.{Spec}
 use Rattle.spec.specs.declared.SpecRead.{SpecRead}
 use Rattle.spec.specs.declared.SpecRead.the-variants.{Accepted, Refused}
 use Rattle.spec.specs.File.{readNumber}
 use Rattle.pairs.specs.declared.Pair.{Pair}
-use Rattle.pairs.specs.Pairs.{unpacked, flatPairs}
-use Rattle.pairs.proofs.Unpacked.{flat-of-few, flat-of-many}
+use Rattle.pairs.specs.declared.Flat.{Flat}
+use Rattle.pairs.specs.Pairs.{pairsOf, Lays}
+use Rattle.pairs.proofs.Counts.{fits, fits-all, fits-none}
+use Rattle.pairs.proofs.Packed.{held-pairs}
 use Rattle.numbers.proofs.Cases.{lt-cases}
 use Rattle.cycle.specs.Check.{countAllowed, cycleNumber, checkNumber, checkFileNumber}
-use Rattle.cycle.specs.Statements.{FlatSameNumber}
 
 -- too many pairs get the number of none
 too-many : (spec : Spec) (ps : List Pair) → 512 < length ps → checkNumber spec [] ≡ checkNumber spec ps
 unfolding checkNumber cycleNumber countAllowed
 too-many spec ps h = rw (lt-leb (length ps) 512 h, and-false)
 
-pub same-number : FlatSameNumber
-same-number spec ps =
+-- the pairs in front of the words, as many as are laid flat, get the list's number
+pub same-number : (spec : Spec) (flat : Flat) (ps : List Pair) → Lays flat ps → (n : ℕ) → n ≡ fits (flat .count) 512 → checkNumber spec (pairsOf (take (2 * n) (flat .words))) ≡ checkNumber spec ps
+same-number spec flat ps holds n e =
+    let n-is : n ≡ fits (length ps) 512 = e ∙ ap (λ (k : ℕ). fits k 512) (holds .count-is) in
     ⊎-elim
-    (λ h. rw (flat-of-many ps h) (too-many spec ps h))
-    (λ h. rw (flat-of-few ps h))
+    (λ many. rw (n-is ∙ fits-none (length ps) 512 many) (too-many spec ps many))
+    (λ few. rw (n-is ∙ fits-all (length ps) few) (ap (checkNumber spec) (held-pairs flat ps holds few)))
     (lt-cases 512 (length ps))
-
-pub same-file-number : (read : SpecRead) (ps : List Pair) → checkFileNumber read (flatPairs (unpacked ps)) ≡ checkFileNumber read ps
-unfolding checkFileNumber
-same-file-number (Accepted spec) ps = same-number spec ps
-same-file-number (Refused n) ps = refl
 
 -- a specification's file that is refused, that is accepted
 pub read-refused : {read : SpecRead} {n : ℕ} (ps : List Pair) → read ≡ Refused n → readNumber read ≡ checkFileNumber read ps

@@ -12,13 +12,14 @@ use Rattle.spec.specs.declared.Rate.the-variants.{Absent, Present}
 use Rattle.spec.specs.declared.Spec.{Spec}
 use Rattle.spec.specs.declared.SpecRead.{SpecRead}
 use Rattle.spec.specs.File.{ifRead}
-use Rattle.spec.specs.Limits.{between, ifAccepted, sizeAllowed, gapAllowed}
+use Rattle.spec.specs.Limits.{ifAccepted, sizeAllowed, gapAllowed}
 use Rattle.pairs.specs.declared.Pair.{Pair}
+use Rattle.pairs.specs.Pairs.{countIn}
 use Rattle.schedule.specs.Schedules.{stretch}
 use Rattle.cycle.specs.Cycles.{pairGap, pairSize, cycleRun, round}
 
 unfoldable pub countAllowed : List Pair → Bool
-countAllowed ps = between 1 512 (length ps)
+countAllowed ps = countIn (length ps)
 
 unfoldable pub gapsAllowed : Spec → List Pair → Bool
 gapsAllowed spec ps = all (λ j. gapAllowed spec (pairGap ps j)) (length ps)

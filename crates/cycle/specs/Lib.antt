@@ -2,4 +2,3 @@ pub mod Cycles
 pub mod Check
 pub mod Windows
 pub mod Witnesses
-pub mod Statements

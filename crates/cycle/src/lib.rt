@@ -12,11 +12,13 @@ use spec::refusal;
 use stretches::Rule;
 ghost use mathlib.Core.Path.{_≡_};
 ghost use mathlib.Core.Bool.{true};
-ghost use Prim.Native.Nat.{_*_, _/_, _<_, _≤_};
-ghost use lib.ListN.{length, take};
+ghost use Prim.Native.Nat.{_/_, _<_, _≤_};
+ghost use mathlib.Core.List.{List};
+ghost use lib.ListN.{length};
 ghost use Rattle.spec.specs.Limits.{rateLimits};
 ghost use Rattle.spec.specs.File.{readSpec};
-ghost use Rattle.pairs.specs.Pairs.{pairsOf, flatPairs};
+ghost use Rattle.pairs.specs.declared.Pair.{Pair};
+ghost use Rattle.pairs.specs.Pairs.{pairsOf, Lays};
 ghost use Rattle.cycle.specs.Check.{supplyKept, demandMet, checkNumber, checkFileNumber};
 ghost use Rattle.cycle.specs.Windows.{fieldAllowed, fieldsAllowed, Walkable};
 
@@ -86,7 +88,7 @@ pub fn check(spec: Spec, words: &[u16]) -> u32
         return refused;
     }
     let count = words.len() / 2;
-    if !((1 <= count) & (count <= pairs::MOST_PAIRS)) {
+    if !pairs::count_in(count) {
         return refusal::COUNT;
     }
     if !fields_allowed(spec, words, 0) {
@@ -106,34 +108,17 @@ pub fn check(spec: Spec, words: &[u16]) -> u32
     0
 }
 
-// The same of the first `count` pairs that an array holds.
-fn check_words(spec: Spec, words: &[u16; 1024], count: usize) -> u32
-    requires { ⌜ count ≤ 512 ⌝ }
-    ensures { λ r. ⌜ r ≡ checkNumber spec (pairsOf (take (2 * count) (now (words .entry)))) ⌝ }
-{
-    let whole = &words[..];
-    check(spec, &whole[..2 * count])
-}
-
-// The same of a list of pairs that was unpacked. Of too many pairs none are laid flat, and none get the same number.
-pub fn check_unpacked(spec: Spec, flat: Flat) -> u32
-    ensures { λ r. ⌜ r ≡ checkNumber spec (flatPairs flat) ⌝ }
-{
-    let count = flat.count;
-    let words = flat.words;
-    if pairs::MOST_PAIRS < count {
-        return check_words(spec, &words, 0);
-    }
-    check_words(spec, &words, count)
-}
-
-// The same, given a specification's file, for callers outside Rattle: only an accepted specification goes on.
+// The number of a list of pairs that was unpacked, against a specification's file: only an accepted specification goes on. Of too many
+// pairs none are laid flat, and none get the same number.
 pub fn check_unpacked_file(spec_bytes: &[u8], flat: Flat) -> u32
-    ensures { λ r. ⌜ r ≡ checkFileNumber (readSpec (now («spec_bytes» .entry))) (flatPairs flat) ⌝ }
+    ensures { λ r. ⌜ ((ps : List Pair) → Lays flat ps → r ≡ checkFileNumber (readSpec (now («spec_bytes» .entry))) ps) ⌝ }
 {
     let read = spec::read_spec(spec_bytes);
     let SpecRead::Accepted(accepted) = read else {
         return spec::read_number(read);
     };
-    check_unpacked(accepted, flat)
+    let used = 2 * pairs::fitting(flat.count, pairs::MOST_PAIRS);
+    let words = flat.words;
+    let all = &words[..];
+    check(accepted, &all[..used])
 }

@@ -4,9 +4,9 @@ use Prim.Native.Nat.{ℕ, _≤_}
 use mathlib.Core.Bool.{Bool, true, false, cond, not, _||_}
 use lib.Dec.{eqb, lit≤}
 use Rattle.pairs.specs.declared.Pair.{Pair}
-use Rattle.cyclefile.specs.declared.Cursor.{Cursor}
-use Rattle.cyclefile.specs.File.{none, after, isFirst, stands, fieldLength}
-use Rattle.cyclefile.specs.Steps.{beforeOf}
+use Rattle.cyclefile.specs.declared.writing.Cursor.{Cursor}
+use Rattle.cyclefile.specs.File.{none, behind, isFirst, stands, fieldLength}
+use Rattle.cyclefile.specs.InnerPromises.{beforeOf}
 
 pub fieldLength-small : (t : Bool) → fieldLength t ≤ 2
 fieldLength-small true = lit≤ tt
@@ -14,16 +14,13 @@ fieldLength-small false = lit≤ tt
 
 -- ---- the pair before, told by a flag and a pair
 
-isFirst-flag : (first : Bool) (q : Pair) → isFirst (cond first none (after q)) ≡ first
+pub isFirst-flag : (first : Bool) (q : Pair) → isFirst (cond first none (behind q)) ≡ first
 isFirst-flag true q = refl
 isFirst-flag false q = refl
 
-stands-flag : (first : Bool) (q : Pair) (field : Pair → ℕ) (p : Pair) → stands (cond first none (after q)) field p ≡ (first || not (eqb (field p) (field q)))
+pub stands-flag : (first : Bool) (q : Pair) (field : Pair → ℕ) (p : Pair) → stands (cond first none (behind q)) field p ≡ (first || not (eqb (field p) (field q)))
 stands-flag true q field p = refl
 stands-flag false q field p = refl
-
-pub isFirst-of : (c : Cursor) → isFirst (beforeOf c) ≡ c .first
-isFirst-of c = isFirst-flag (c .first) (c .last)
 
 pub stands-of : (c : Cursor) (field : Pair → ℕ) (p : Pair) → stands (beforeOf c) field p ≡ (c .first || not (eqb (field p) (field (c .last))))
 stands-of c field p = stands-flag (c .first) (c .last) field p

@@ -1,14 +1,12 @@
 pub mod Fields
-pub mod LaidOver
 pub mod OnePair
 pub mod PairByPair
 pub mod WholeFile
 pub mod PlainSteps
-pub mod Judging
-pub mod Parsing
+pub mod OnePass
+pub mod ReadWords
 pub mod StoredBytes
-pub mod FlatForms
-pub mod PairForms
+pub mod WriteAnswers
 pub mod RoundTrip
 pub mod Worked
 pub mod WrittenBytes

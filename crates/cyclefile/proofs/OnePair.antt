@@ -8,30 +8,28 @@ use lib.Dec.{eqb, ltb}
 use lib.ListN.{length, getD}
 use borrow.Author.Tests.{eqb-true, eqb-false, ltb-true, ltb-false, eq-eqb, ne-eqb, lt-ltb, le-ltb}
 use Rattle.pairs.specs.declared.Pair.{Pair}
-use Rattle.cyclefile.specs.declared.PairRead.the-variants.{Taken, Stopped}
-use Rattle.cyclefile.specs.Refusals.{wrongMap, cut, notLeftOut}
-use Rattle.cyclefile.specs.File.{Before, lastPair, mapIsWrong, bytesTaken, pairAt, standsInVain, readPair}
+use Rattle.cyclefile.specs.File.{Before, lastPair, mapIsWrong, bytesTaken, pairAt, standsInVain, readPair, Taken, Stopped}
 
 module _ (before : Before) (b : List ℕ) where
   abbrev m : ℕ
   m = getD b 0 0
 
-  pub no-map : length b ≡ 0 → readPair before b ≡ Stopped cut
+  pub no-map : length b ≡ 0 → readPair before b ≡ Stopped 18
   unfolding readPair
   no-map e = simp (eq-eqb (length b) 0 e)
 
   module _ (some : length b ≡ 0 → ⊥) where
-    pub wrong-map : mapIsWrong before m ≡ true → readPair before b ≡ Stopped wrongMap
+    pub wrong-map : mapIsWrong before m ≡ true → readPair before b ≡ Stopped 17
     unfolding readPair
     wrong-map w = simp (ne-eqb (length b) 0 some, w)
 
     module _ (right : mapIsWrong before m ≡ false) where
-      pub field-cut : length b < bytesTaken m → readPair before b ≡ Stopped cut
+      pub field-cut : length b < bytesTaken m → readPair before b ≡ Stopped 18
       unfolding readPair
       field-cut short = simp (ne-eqb (length b) 0 some, right, lt-ltb (length b) (bytesTaken m) short)
 
       module _ (long : bytesTaken m ≤ length b) where
-        pub in-vain : standsInVain before m (pairAt (lastPair before) b) ≡ true → readPair before b ≡ Stopped notLeftOut
+        pub in-vain : standsInVain before m (pairAt (lastPair before) b) ≡ true → readPair before b ≡ Stopped 19
         unfolding readPair
         in-vain v = simp (ne-eqb (length b) 0 some, right, le-ltb (length b) (bytesTaken m) long, v)
 

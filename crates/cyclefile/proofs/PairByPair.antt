@@ -1,79 +1,29 @@
--- Laws of reading pair by pair. Judging: while i pairs are passed, what is left decides the answer (`judgedAfter`). Filling: the pairs that the
--- cursors pass are those that `readPairs` gives. Assumes nothing.
+-- Laws of reading pair by pair: what is left reads as some pairs where one is taken and the rest reads as the others. Assumes nothing.
 use mathlib.Core.Path.{_≡_, refl, sym, ap, _∙_}
-use Prim.Native.Nat.{ℕ, zero, suc, _+_}
-use native.Mathlib.Nat.{zero-add, add-zero}
-use native.Mathlib.Numerals.{add-one}
+use Prim.Native.Nat.{ℕ, zero, suc, _≤_, zero-le}
 use native.Mathlib.Omega.{arith}
 use mathlib.Core.Bool.{Bool, true, false, cond}
-use mathlib.Core.List.{List, [], _∷_, _++_, append-nil, append-assoc}
+use mathlib.Core.List.{List, [], _∷_}
 use lib.Dec.{eqb}
-use lib.ListN.{length, drop, length-append}
-use lib.Seq.{drop-drop}
-use borrow.Author.Tests.{eqb-true, eq-eqb, ne-eqb}
+use lib.ListN.{length, drop}
+use borrow.Author.Tests.{eqb-true}
 use Rattle.pairs.specs.declared.Pair.{Pair}
-use Rattle.cyclefile.specs.declared.Cursor.{Cursor}
-use Rattle.cyclefile.specs.declared.PairRead.{PairRead}
-use Rattle.cyclefile.specs.declared.PairRead.the-variants.{Taken, Stopped}
-use Rattle.cyclefile.specs.declared.Judged.{Judged}
-use Rattle.cyclefile.specs.declared.Judged.the-variants.{Count, Refused}
-use Rattle.cyclefile.specs.Refusals.{bytesOver}
-use Rattle.cyclefile.specs.File.{Before, after, CycleRead, pairs, refused, readPair, andThen, withFirst, readPairs}
-use Rattle.cyclefile.specs.Steps.{beforeOf, past, readAt, nextOf, cursorAt, firstPairs, judged}
+use Rattle.cyclefile.specs.File.{Before, behind, CycleRead, pairs, refused, PairRead, Taken, Stopped, readPair, afterPair, withFirst, readPairs, passedPairs}
 
--- ---- judging
-
--- the answer where i pairs are passed and the rest reads so
-abbrev pub judgedAfter : ℕ → CycleRead → Judged
-judgedAfter i (pairs ps) = Count (i + length ps)
-judgedAfter i (refused n) = Refused n
-
-pub judgedAfter-none : (r : CycleRead) → judgedAfter 0 r ≡ judged r
-judgedAfter-none (pairs ps) = ap Count (zero-add (length ps))
-judgedAfter-none (refused n) = refl
-
-judgedAfter-first : (i : ℕ) (p : Pair) (r : CycleRead) → judgedAfter i (withFirst p r) ≡ judgedAfter (i + 1) r
-judgedAfter-first i p (pairs ps) = let e : i + suc (length ps) ≡ i + 1 + length ps = omega arith in ap Count e
-judgedAfter-first i p (refused n) = refl
-
-module _ (before : Before) (b : List ℕ) (i k : ℕ) where
-  pub judged-pair : (p : Pair) (n : ℕ) → readPair before b ≡ Taken p n → judgedAfter i (readPairs (suc k) before b) ≡ judgedAfter (i + 1) (readPairs k (after p) (drop n b))
-  unfolding readPairs
-  judged-pair p n h = rw h (judgedAfter-first i p (readPairs k (after p) (drop n b)))
-
-  pub judged-stop : (n : ℕ) → readPair before b ≡ Stopped n → judgedAfter i (readPairs (suc k) before b) ≡ Refused n
-  unfolding readPairs
-  judged-stop n h = rw h
-
-  pub judged-end : length b ≡ 0 → judgedAfter i (readPairs 0 before b) ≡ Count i
-  unfolding readPairs
-  judged-end e = rw (eq-eqb (length b) 0 e) (ap Count (add-zero i))
-
-  pub judged-over : (length b ≡ 0 → ⊥) → judgedAfter i (readPairs 0 before b) ≡ Refused bytesOver
-  unfolding readPairs
-  judged-over e = rw (ne-eqb (length b) 0 e)
-
--- ---- filling
-
-pub length-firstPairs : (file : List ℕ) (i : ℕ) → length (firstPairs file i) ≡ i
-length-firstPairs file zero = refl
-length-firstPairs file (suc i) = length-append (firstPairs file i) (cursorAt file (suc i) .last ∷ []) ∙ ap (λ (k : ℕ). k + 1) (length-firstPairs file i) ∙ add-one i
-
--- what is left reads as some pairs: one is taken, and the rest reads as the others
 pub record Split (before : Before) (b : List ℕ) (k : ℕ) (ps : List Pair) : Type 0 where
   pub head : Pair
   pub taken : ℕ
   pub tail : List Pair
   pub ps-is : ps ≡ head ∷ tail
   pub head-read : readPair before b ≡ Taken head taken
-  pub tail-read : readPairs k (after head) (drop taken b) ≡ pairs tail
+  pub tail-read : readPairs k (behind head) (drop taken b) ≡ pairs tail
 
-split-rest : (before : Before) (b : List ℕ) (k : ℕ) (ps : List Pair) (p : Pair) (n : ℕ) → readPair before b ≡ Taken p n → (rest : CycleRead) → readPairs k (after p) (drop n b) ≡ rest → withFirst p rest ≡ pairs ps → Split before b k ps
+split-rest : (before : Before) (b : List ℕ) (k : ℕ) (ps : List Pair) (p : Pair) (n : ℕ) → readPair before b ≡ Taken p n → (rest : CycleRead) → readPairs k (behind p) (drop n b) ≡ rest → withFirst p rest ≡ pairs ps → Split before b k ps
 split-rest before b k ps p n h (pairs qs) e g = record { head = p; taken = n; tail = qs; ps-is = (cc); head-read = h; tail-read = e }
 split-rest before b k ps p n h (refused m) e g = absurd (let z : _≡_ {A = ℕ} 0 1 = cc in omega arith)
 
-split-by : (before : Before) (b : List ℕ) (k : ℕ) (ps : List Pair) (r : PairRead) → readPair before b ≡ r → andThen r (λ (p : Pair) (taken : ℕ). withFirst p (readPairs k (after p) (drop taken b))) ≡ pairs ps → Split before b k ps
-split-by before b k ps (Taken p n) h g = split-rest before b k ps p n h (readPairs k (after p) (drop n b)) refl g
+split-by : (before : Before) (b : List ℕ) (k : ℕ) (ps : List Pair) (r : PairRead) → readPair before b ≡ r → afterPair r refused (λ (p : Pair) (taken : ℕ). withFirst p (readPairs k (behind p) (drop taken b))) ≡ pairs ps → Split before b k ps
+split-by before b k ps (Taken p n) h g = split-rest before b k ps p n h (readPairs k (behind p) (drop n b)) refl g
 split-by before b k ps (Stopped m) h g = absurd (let z : _≡_ {A = ℕ} 0 1 = cc in omega arith)
 
 pub split : (before : Before) (b : List ℕ) (k : ℕ) (ps : List Pair) → readPairs (suc k) before b ≡ pairs ps → Split before b k ps
@@ -81,7 +31,7 @@ unfolding readPairs
 split before b k ps h = split-by before b k ps (readPair before b) refl h
 
 -- no pair is left, and no byte over
-ended-by : (ps : List Pair) (t : Bool) → cond t (pairs []) (refused bytesOver) ≡ pairs ps → (t ≡ true) × (ps ≡ [])
+ended-by : (ps : List Pair) (t : Bool) → cond t (pairs []) (refused 18) ≡ pairs ps → (t ≡ true) × (ps ≡ [])
 ended-by ps true h = (refl, cc)
 ended-by ps false h = absurd (let z : _≡_ {A = ℕ} 0 1 = cc in omega arith)
 
@@ -91,21 +41,21 @@ ended before b ps h = let e = ended-by ps (eqb (length b) 0) h in (eqb-true (len
 
 pub length-read : (n : ℕ) (before : Before) (b : List ℕ) (ps : List Pair) → readPairs n before b ≡ pairs ps → length ps ≡ n
 length-read zero before b ps h = ap length (ended before b ps h .1)
-length-read (suc n) before b ps h = let s = split before b n ps h in ap length (s .ps-is) ∙ ap suc (length-read n (after (s .head)) (drop (s .taken) b) (s .tail) (s .tail-read))
+length-read (suc n) before b ps h = let s = split before b n ps h in ap length (s .ps-is) ∙ ap suc (length-read n (behind (s .head)) (drop (s .taken) b) (s .tail) (s .tail-read))
 
-next-is : (file : List ℕ) (c : Cursor) (p : Pair) (n : ℕ) → readAt file c ≡ Taken p n → nextOf file c ≡ past c p n
-unfolding nextOf
-next-is file c p n h = rw h
+-- where all are read, all are passed
+pub passed-all : (n : ℕ) (before : Before) (b : List ℕ) (ps : List Pair) → readPairs n before b ≡ pairs ps → passedPairs n before b ≡ ps
+unfolding passedPairs
+passed-all zero before b ps h = sym (ended before b ps h .1)
+passed-all (suc n) before b ps h =
+    let s = split before b n ps h in
+    rw (s .head-read, passed-all n (behind (s .head)) (drop (s .taken) b) (s .tail) (s .tail-read)) (sym (s .ps-is))
 
-pub filled : (file : List ℕ) (n i : ℕ) (ps : List Pair) → readPairs n (beforeOf (cursorAt file i)) (drop (cursorAt file i .at) file) ≡ pairs ps → firstPairs file (i + n) ≡ firstPairs file i ++ ps
-filled file zero i ps h = rw (ended _ _ ps h .1, append-nil) (ap (firstPairs file) (add-zero i))
-filled file (suc n) i ps h =
-    let s = split _ _ n ps h in
-    let next : cursorAt file (suc i) ≡ past (cursorAt file i) (s .head) (s .taken) = next-is file (cursorAt file i) (s .head) (s .taken) (s .head-read) in
-    let e : i + suc n ≡ suc i + n = omega arith in
-    let rest : firstPairs file (suc i + n) ≡ firstPairs file (suc i) ++ s .tail = filled file n (suc i) (s .tail) (rw (next, ← drop-drop) (s .tail-read)) in
-    ap (firstPairs file) e
-    ∙ rest
-    ∙ ap (λ (c : Cursor). (firstPairs file i ++ (c .last ∷ [])) ++ s .tail) next
-    ∙ append-assoc (firstPairs file i) (s .head ∷ []) (s .tail)
-    ∙ ap (λ (l : List Pair). firstPairs file i ++ l) (sym (s .ps-is))
+few-by : (n : ℕ) (r : PairRead) (rest : Pair → ℕ → List Pair) → ((p : Pair) (taken : ℕ) → length (rest p taken) ≤ n) → length (afterPair r (λ (m : ℕ). []) (λ (p : Pair) (taken : ℕ). p ∷ rest p taken)) ≤ suc n
+few-by n (Taken p taken) rest h = let k = h p taken in omega arith
+few-by n (Stopped m) rest h = zero-le
+
+pub passed-few : (n : ℕ) (before : Before) (b : List ℕ) → length (passedPairs n before b) ≤ n
+unfolding passedPairs
+passed-few zero before b = zero-le
+passed-few (suc n) before b = few-by n (readPair before b) (λ (p : Pair) (taken : ℕ). passedPairs n (behind p) (drop taken b)) (λ p taken. passed-few n (behind p) (drop taken b))

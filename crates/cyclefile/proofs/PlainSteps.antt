@@ -1,5 +1,5 @@
--- One pair read with plain numbers for the pair before: what a step of `one_pass` is where each of its tests went one way, and what its
--- number tells. Assumes nothing.
+-- One pair read with plain numbers for the pair before: what `step_at` gives where each of its tests went one way, and what its number
+-- tells. Assumes nothing.
 use mathlib.Core.Path.{_≡_, refl, sym, ap, _∙_}
 use Prim.Native.Nat.{ℕ, _+_, _-_, _≤_, _<_}
 use native.Mathlib.Nat.{add-zero, add-assoc}
@@ -10,23 +10,20 @@ use lib.Dec.{eqb, ltb}
 use lib.ListN.{length, getD, drop, length-drop}
 use lib.Seq.{getD-drop}
 use Rattle.pairs.specs.declared.Pair.{Pair}
-use Rattle.cyclefile.specs.declared.Cursor.{Cursor}
-use Rattle.cyclefile.specs.declared.PairRead.{PairRead}
-use Rattle.cyclefile.specs.declared.PairRead.the-variants.{Taken, Stopped}
 use Rattle.cyclefile.specs.declared.reading.steps.Field.{Field}
 use Rattle.cyclefile.specs.declared.reading.steps.Step.{Step}
-use Rattle.cyclefile.specs.Refusals.{wrongMap, cut, notLeftOut}
-use Rattle.cyclefile.specs.File.{Before, none, after, numberAt, hasGap, hasSize, fieldLength, bytesTaken, lastPair, pairAt, mapIsWrong, standsInVain, readPair}
-use Rattle.cyclefile.specs.OnePass.{beforeIs, wrongHere, fieldOf, inVain, stoppedBy, stepOf}
-use Rattle.cyclefile.proofs.Fields.{isFirst-of, stands-of}
+use Rattle.spec.specs.File.{word}
+use Rattle.cyclefile.specs.File.{Before, none, behind, hasGap, hasSize, fieldLength, bytesTaken, lastPair, pairAt, mapIsWrong, standsInVain, readPair, PairRead, Taken, Stopped}
+use Rattle.cyclefile.specs.InnerPromises.{beforeIs, wrongHere, fieldOf, inVain, stoppedBy, stepOf}
+use Rattle.cyclefile.proofs.Fields.{isFirst-flag, stands-flag}
 use Rattle.cyclefile.proofs.OnePair.{no-map, wrong-map, field-cut, in-vain, taken}
 
-numberAt-drop : (n : ℕ) (l : List ℕ) (i : ℕ) → numberAt (drop n l) i ≡ numberAt l (n + i)
-numberAt-drop n l i = rw (getD-drop, getD-drop, add-assoc)
+word-drop : (n : ℕ) (l : List ℕ) (i : ℕ) → word (drop n l) i ≡ word l (n + i)
+word-drop n l i = rw (getD-drop, getD-drop, add-assoc)
 
 -- a first pair that is read has both fields, so it is the same after any pair
 pair-by : (first gap size large : Bool) (q : Pair) (x y : ℕ) → (large || (first && not (gap && size))) ≡ false
-    → _≡_ {A = Pair} (record { gap = cond gap x (lastPair (cond first none (after q)) .gap); size = cond size y (lastPair (cond first none (after q)) .size) }) (record { gap = cond gap x (q .gap); size = cond size y (q .size) })
+    → _≡_ {A = Pair} (record { gap = cond gap x (lastPair (cond first none (behind q)) .gap); size = cond size y (lastPair (cond first none (behind q)) .size) }) (record { gap = cond gap x (q .gap); size = cond size y (q .size) })
 pair-by false gap size large q x y h = refl
 pair-by true true true large q x y h = refl
 pair-by true true false true q x y h = absurd (let z : _≡_ {A = ℕ} 0 1 = cc in omega arith)
@@ -41,37 +38,36 @@ module _ (file : List ℕ) (i : ℕ) (first : Bool) (g s : ℕ) where
   abbrev m : ℕ
   m = getD file i 0
 
-  cursor : Cursor
-  cursor = record { at = i; first = first; last = record { gap = g; size = s } }
+  abbrev q : Pair
+  q = record { gap = g; size = s }
 
   map-here : getD (drop i file) 0 0 ≡ m
   map-here = getD-drop i file 0 0 ∙ ap (λ (k : ℕ). getD file k 0) (add-zero i)
 
   wrong-is : mapIsWrong before (getD (drop i file) 0 0) ≡ wrongHere first m
-  unfolding cursor
-  wrong-is = rw (map-here, isFirst-of cursor)
+  wrong-is = rw (map-here, isFirst-flag first q)
 
-  pub step-none : length file - i ≡ 0 → stoppedBy cut ≡ stepOf i (readPair before (drop i file))
+  pub step-none : length file - i ≡ 0 → stoppedBy 18 ≡ stepOf i (readPair before (drop i file))
   step-none e = rw (no-map before (drop i file) (length-drop i file ∙ e))
 
   module _ (some : length file - i ≡ 0 → ⊥) where
     some-here : length (drop i file) ≡ 0 → ⊥
     some-here z = some (sym (length-drop i file) ∙ z)
 
-    pub step-wrong : wrongHere first m ≡ true → stoppedBy wrongMap ≡ stepOf i (readPair before (drop i file))
+    pub step-wrong : wrongHere first m ≡ true → stoppedBy 17 ≡ stepOf i (readPair before (drop i file))
     step-wrong w = rw (wrong-map before (drop i file) some-here (wrong-is ∙ w))
 
     module _ (right : wrongHere first m ≡ false) where
-      pub step-cut : length file - i < bytesTaken m → stoppedBy cut ≡ stepOf i (readPair before (drop i file))
+      pub step-cut : length file - i < bytesTaken m → stoppedBy 18 ≡ stepOf i (readPair before (drop i file))
       step-cut h = rw (field-cut before (drop i file) some-here (wrong-is ∙ right) (rw (length-drop, map-here) h))
 
       module _ (long : bytesTaken m ≤ length file - i) where
         -- the pair's numbers, by places of the file
         abbrev pub gapHere : ℕ
-        gapHere = cond (hasGap m) (numberAt file (i + 1)) g
+        gapHere = cond (hasGap m) (word file (i + 1)) g
 
         abbrev pub sizeHere : ℕ
-        sizeHere = cond (hasSize m) (numberAt file (i + 1 + fieldLength (hasGap m))) s
+        sizeHere = cond (hasSize m) (word file (i + 1 + fieldLength (hasGap m))) s
 
         abbrev pub vainHere : Bool
         vainHere = inVain first (hasGap m) gapHere g || inVain first (hasSize m) sizeHere s
@@ -81,12 +77,11 @@ module _ (file : List ℕ) (i : ℕ) (first : Bool) (g s : ℕ) where
 
         pair-here : pairAt (lastPair before) (drop i file) ≡ record { gap = gapHere; size = sizeHere }
         pair-here =
-            rw (map-here, numberAt-drop i file 1, numberAt-drop i file (1 + fieldLength (hasGap m)), ← add-assoc i 1 (fieldLength (hasGap m)))
+            rw (map-here, word-drop i file 1, word-drop i file (1 + fieldLength (hasGap m)), ← add-assoc i 1 (fieldLength (hasGap m)))
             (pair-by first (hasGap m) (hasSize m) (ltb 3 m) (record { gap = g; size = s }) _ _ right)
 
         vain-is : standsInVain before (getD (drop i file) 0 0) (pairAt (lastPair before) (drop i file)) ≡ vainHere
-        unfolding cursor
-        vain-is = rw (pair-here, map-here, stands-of cursor (λ (q : Pair). q .gap) (record { gap = gapHere; size = sizeHere }), stands-of cursor (λ (q : Pair). q .size) (record { gap = gapHere; size = sizeHere }))
+        vain-is = rw (pair-here, map-here, stands-flag first q (λ (q : Pair). q .gap) (record { gap = gapHere; size = sizeHere }), stands-flag first q (λ (q : Pair). q .size) (record { gap = gapHere; size = sizeHere }))
 
         -- what the step's calls gave: whether the fields stand, the fields, and whether one stands in vain
         module _ {withGap withSize vain₁ vain₂ : Bool} {gapTaken sizeTaken : Field} (gap-stands : withGap ≡ hasGap m) (size-stands : withSize ≡ hasSize m)
@@ -95,7 +90,7 @@ module _ (file : List ℕ) (i : ℕ) (first : Bool) (g s : ℕ) where
           told : (vain₁ || vain₂) ≡ vainHere
           told = rw (gap-vain, size-vain, size-is, gap-is, size-stands, gap-stands)
 
-          pub step-vain : (vain₁ || vain₂) ≡ true → stoppedBy notLeftOut ≡ stepOf i (readPair before (drop i file))
+          pub step-vain : (vain₁ || vain₂) ≡ true → stoppedBy 19 ≡ stepOf i (readPair before (drop i file))
           step-vain v = rw (in-vain before (drop i file) some-here (wrong-is ∙ right) long-here (vain-is ∙ sym told ∙ v))
 
           read-here : vainHere ≡ false → readPair before (drop i file) ≡ Taken (record { gap = gapHere; size = sizeHere }) (bytesTaken m)
@@ -112,7 +107,7 @@ module _ (file : List ℕ) (i : ℕ) (first : Bool) (g s : ℕ) where
 -- ---- what a step tells
 
 -- no refusal is 0
-stop-by : (t₁ t₂ t₃ t₄ : Bool) (p : Pair) (k : ℕ) → cond t₁ (Stopped cut) (cond t₂ (Stopped wrongMap) (cond t₃ (Stopped cut) (cond t₄ (Stopped notLeftOut) (Taken p k)))) ≡ Stopped 0 → ⊥
+stop-by : (t₁ t₂ t₃ t₄ : Bool) (p : Pair) (k : ℕ) → cond t₁ (Stopped 18) (cond t₂ (Stopped 17) (cond t₃ (Stopped 18) (cond t₄ (Stopped 19) (Taken p k)))) ≡ Stopped 0 → ⊥
 stop-by true t₂ t₃ t₄ p k h = let z : _≡_ {A = ℕ} 18 0 = cc in omega arith
 stop-by false true t₃ t₄ p k h = let z : _≡_ {A = ℕ} 17 0 = cc in omega arith
 stop-by false false true t₄ p k h = let z : _≡_ {A = ℕ} 18 0 = cc in omega arith

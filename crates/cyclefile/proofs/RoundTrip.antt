@@ -12,13 +12,13 @@ use lib.ListN.{length, getD, take, drop, length-append, take-append-drop}
 use lib.Seq.{drop-append-seam, drop-cons, take-add, getD-drop}
 use borrow.Author.Tests.{eqb-true, eq-eqb, not-false, le-leb, ltb-false}
 use Rattle.pairs.specs.declared.Pair.{Pair}
-use Rattle.cyclefile.specs.declared.PairRead.the-variants.{Taken}
-use Rattle.cyclefile.specs.File.{Before, none, after, isFirst, lastPair, stands, gapStands, sizeStands, mapByte, bytesOf, fieldBytes, pairBytes, pairsBytes, cycleBytes, pairs, numberAt, hasGap, hasSize, mapIsWrong, fieldLength, bytesTaken, pairAt, standsInVain, readPair, readPairs}
-use Rattle.cyclefile.specs.Statements.{ReadsBack, AreBytes, WritesBack, ReadsCycles}
+use Rattle.spec.specs.File.{word}
+use Rattle.cyclefile.specs.File.{AreBytes, readCycle, Before, none, behind, isFirst, lastPair, stands, gapStands, sizeStands, mapByte, bytesOf, fieldBytes, pairBytes, pairsBytes, cycleBytes, pairs, hasGap, hasSize, mapIsWrong, fieldLength, bytesTaken, pairAt, standsInVain, readPair, readPairs, Taken}
+use Rattle.pairs.proofs.Counts.{countIn-true}
 use Rattle.cyclefile.proofs.OnePair.{took}
 use Rattle.cyclefile.proofs.OnePair as one
 use Rattle.cyclefile.proofs.PairByPair.{split, ended, length-read}
-use Rattle.cyclefile.proofs.WholeFile.{accepted, countIn-true}
+use Rattle.cyclefile.proofs.WholeFile.{accepted}
 use Rattle.cyclefile.proofs.WholeFile as whole
 use Rattle.cyclefile.proofs.StoredBytes.{length-pairBytes}
 
@@ -50,11 +50,11 @@ no-more-bits false false = refl
 -- a field that is left out equals the one before, and its pair is not the first
 left-out : (before : Before) (field : Pair → ℕ) (p : Pair) → stands before field p ≡ false → field (lastPair before) ≡ field p
 left-out none field p e = absurd (let z : _≡_ {A = Bool} true false = e in let y : _≡_ {A = ℕ} 0 1 = cc in omega arith)
-left-out (after q) field p e = sym (eqb-true (field p) (field q) (not-false _ e))
+left-out (behind q) field p e = sym (eqb-true (field p) (field q) (not-false _ e))
 
 not-first : (before : Before) (field : Pair → ℕ) (p : Pair) → stands before field p ≡ false → isFirst before ≡ false
 not-first none field p e = e
-not-first (after q) field p e = refl
+not-first (behind q) field p e = refl
 
 same-pair : (p : Pair) (g s : ℕ) → g ≡ p .gap → s ≡ p .size → record { gap = g; size = s } ≡ p
 same-pair p g s e f = ap (λ (k : ℕ). record { gap = k; size = s }) e ∙ ap (λ (k : ℕ). record { gap = p .gap; size = k }) f
@@ -95,13 +95,14 @@ module _ (before : Before) (p : Pair) (rest : List ℕ) where
 pairs-read : (before : Before) (ps : List Pair) → readPairs (length ps) before (pairsBytes before ps) ≡ pairs ps
 unfolding readPairs pairsBytes
 pairs-read before [] = refl
-pairs-read before (p ∷ ps) = rw (pair-read before p (pairsBytes (after p) ps), drop-append-seam, pairs-read (after p) ps)
+pairs-read before (p ∷ ps) = rw (pair-read before p (pairsBytes (behind p) ps), drop-append-seam, pairs-read (behind p) ps)
 
-pub reads-back : ReadsBack
+-- the file of every cycle of 1 to 512 pairs reads as that cycle, where the lent list has the places
+pub reads-back : (places : ℕ) (ps : List Pair) → 1 ≤ length ps → length ps ≤ 512 → length ps ≤ places → readCycle places (cycleBytes ps) ≡ pairs ps
 unfolding cycleBytes
 reads-back places ps some most room =
-    let n : numberAt (cycleBytes ps) 0 ≡ length ps = joined (length ps) in
-    whole.pair-by-pair places (cycleBytes ps) (omega arith) (rw (n, le-leb 1 (length ps) some, le-leb (length ps) 512 most)) (rw n room) ∙ rw n (pairs-read none ps)
+    let n : word (cycleBytes ps) 0 ≡ length ps = joined (length ps) in
+    whole.pair-by-pair places (cycleBytes ps) (omega arith) (rw (n, le-leb 1 (length ps) some, le-leb (length ps) 512 most)) (rw n room) .0 ∙ rw n (pairs-read none ps)
 
 -- ---- what is read was written so
 
@@ -110,7 +111,7 @@ apart : (h l : ℕ) → l < 256 → bytesOf (h * 256 + l) ≡ h ∷ l ∷ []
 apart h l b = let e : (h * 256 + l) / 256 ≡ h = omega arith in let f : (h * 256 + l) % 256 ≡ l = omega arith in rw (e, f)
 
 -- a field that stands in a file is its 2 bytes there
-field-kept : (t : Bool) (b : List ℕ) (k : ℕ) → AreBytes b → k + fieldLength t ≤ length b → take (fieldLength t) (drop k b) ≡ fieldBytes t (numberAt b k)
+field-kept : (t : Bool) (b : List ℕ) (k : ℕ) → AreBytes b → k + fieldLength t ≤ length b → take (fieldLength t) (drop k b) ≡ fieldBytes t (word b k)
 field-kept true b k small long = rw (drop-cons b k 0 (omega arith), drop-cons b (suc k) 0 (omega arith), add-one k) (sym (apart (getD b k 0) (getD b (suc k) 0) (small (suc k))))
 field-kept false b k small long = refl
 
@@ -145,21 +146,21 @@ no-bytes (x ∷ b) e = absurd (omega arith)
 -- a field that was read stands exactly where it should
 stands-right : (before : Before) (field : Pair → ℕ) (p : Pair) (t : Bool) (n : ℕ) → (isFirst before ≡ true → t ≡ true) → field p ≡ cond t n (field (lastPair before)) → (t && not (stands before field p)) ≡ false → stands before field p ≡ t
 stands-right none field p t n h e v = sym (h refl)
-stands-right (after q) field p true n h e v = not-false _ v
-stands-right (after q) field p false n h e v = ap not (eq-eqb (field p) (field q) e)
+stands-right (behind q) field p true n h e v = not-false _ v
+stands-right (behind q) field p false n h e v = ap not (eq-eqb (field p) (field q) e)
 
 first-byte : (b : List ℕ) → 1 ≤ length b → take 1 b ≡ getD b 0 0 ∷ []
 first-byte [] h = absurd (omega arith)
 first-byte (m ∷ b) h = refl
 
 bytes-kept : (b : List ℕ) (g s : Bool) → AreBytes b → 1 + fieldLength g + fieldLength s ≤ length b
-    → getD b 0 0 ∷ (fieldBytes g (numberAt b 1) ++ fieldBytes s (numberAt b (1 + fieldLength g))) ≡ take (1 + fieldLength g + fieldLength s) b
+    → getD b 0 0 ∷ (fieldBytes g (word b 1) ++ fieldBytes s (word b (1 + fieldLength g))) ≡ take (1 + fieldLength g + fieldLength s) b
 bytes-kept b g s small long =
     sym (take-add (1 + fieldLength g) (fieldLength s) b
     ∙ ap (λ (l : List ℕ). l ++ take (fieldLength s) (drop (1 + fieldLength g) b)) (take-add 1 (fieldLength g) b)
     ∙ ap (λ (l : List ℕ). (l ++ take (fieldLength g) (drop 1 b)) ++ take (fieldLength s) (drop (1 + fieldLength g) b)) (first-byte b (omega arith))
     ∙ ap (λ (l : List ℕ). getD b 0 0 ∷ (l ++ take (fieldLength s) (drop (1 + fieldLength g) b))) (field-kept g b 1 small (omega arith))
-    ∙ ap (λ (l : List ℕ). getD b 0 0 ∷ (fieldBytes g (numberAt b 1) ++ l)) (field-kept s b (1 + fieldLength g) small long))
+    ∙ ap (λ (l : List ℕ). getD b 0 0 ∷ (fieldBytes g (word b 1) ++ l)) (field-kept s b (1 + fieldLength g) small long))
 
 pair-kept : (before : Before) (b : List ℕ) (p : Pair) (n : ℕ) → AreBytes b → readPair before b ≡ Taken p n → pairBytes before p ++ drop n b ≡ b
 unfolding pairBytes
@@ -170,14 +171,14 @@ pair-kept before b p n small h =
     let right = or-false (ltb 3 m) (isFirst before && not (hasGap m && hasSize m)) (t .right) in
     let both : isFirst before ≡ true → (hasGap m && hasSize m) ≡ true = λ f. not-false _ (rw f at (right .1)) in
     let vain = or-false (hasGap m && not (gapStands before q)) (hasSize m && not (sizeStands before q)) (t .none-in-vain) in
-    let gap : gapStands before q ≡ hasGap m = stands-right before (λ (r : Pair). r .gap) q (hasGap m) (numberAt b 1) (λ f. and-true-left (hasGap m) (hasSize m) (both f)) refl (vain .0) in
-    let size : sizeStands before q ≡ hasSize m = stands-right before (λ (r : Pair). r .size) q (hasSize m) (numberAt b (1 + fieldLength (hasGap m))) (λ f. and-true-right (hasGap m) (hasSize m) (both f)) refl (vain .1) in
+    let gap : gapStands before q ≡ hasGap m = stands-right before (λ (r : Pair). r .gap) q (hasGap m) (word b 1) (λ f. and-true-left (hasGap m) (hasSize m) (both f)) refl (vain .0) in
+    let size : sizeStands before q ≡ hasSize m = stands-right before (λ (r : Pair). r .size) q (hasSize m) (word b (1 + fieldLength (hasGap m))) (λ f. and-true-right (hasGap m) (hasSize m) (both f)) refl (vain .1) in
     let bytes : pairBytes before q ≡ take (bytesTaken m) b =
     ap (λ (t : Bool). mapByte t (sizeStands before q) ∷ (fieldBytes t (q .gap) ++ fieldBytes (sizeStands before q) (q .size))) gap
     ∙ ap (λ (t : Bool). mapByte (hasGap m) t ∷ (fieldBytes (hasGap m) (q .gap) ++ fieldBytes t (q .size))) size
     ∙ ap (λ (k : ℕ). k ∷ (fieldBytes (hasGap m) (q .gap) ++ fieldBytes (hasSize m) (q .size))) (map-again m (right .0))
-    ∙ ap (λ (l : List ℕ). m ∷ (l ++ fieldBytes (hasSize m) (q .size))) (field-same (hasGap m) (numberAt b 1) (lastPair before .gap))
-    ∙ ap (λ (l : List ℕ). m ∷ (fieldBytes (hasGap m) (numberAt b 1) ++ l)) (field-same (hasSize m) (numberAt b (1 + fieldLength (hasGap m))) (lastPair before .size))
+    ∙ ap (λ (l : List ℕ). m ∷ (l ++ fieldBytes (hasSize m) (q .size))) (field-same (hasGap m) (word b 1) (lastPair before .gap))
+    ∙ ap (λ (l : List ℕ). m ∷ (fieldBytes (hasGap m) (word b 1) ++ l)) (field-same (hasSize m) (word b (1 + fieldLength (hasGap m))) (lastPair before .size))
     ∙ bytes-kept b (hasGap m) (hasSize m) small (t .long) in
     ap (λ (r : Pair). pairBytes before r ++ drop n b) (t .pair-is) ∙ ap (λ (l : List ℕ). l ++ drop n b) bytes ∙ ap (λ (k : ℕ). take k b ++ drop n b) (sym (t .taken-is)) ∙ take-append-drop n b
 
@@ -186,22 +187,24 @@ unfolding pairsBytes
 pairs-kept zero before b ps small h = let e = ended before b ps h in rw (e .1) (sym (no-bytes b (e .0)))
 pairs-kept (suc k) before b ps small h =
     let s = split before b k ps h in
-    let rest : pairsBytes (after (s .head)) (s .tail) ≡ drop (s .taken) b = pairs-kept k (after (s .head)) (drop (s .taken) b) (s .tail) (λ i. rw getD-drop (small (s .taken + i))) (s .tail-read) in
+    let rest : pairsBytes (behind (s .head)) (s .tail) ≡ drop (s .taken) b = pairs-kept k (behind (s .head)) (drop (s .taken) b) (s .tail) (λ i. rw getD-drop (small (s .taken + i))) (s .tail-read) in
     ap (pairsBytes before) (s .ps-is) ∙ ap (λ (l : List ℕ). pairBytes before (s .head) ++ l) rest ∙ pair-kept before b (s .head) (s .taken) small (s .head-read)
 
-pub writes-back : WritesBack
+-- a file that reads as a cycle is that cycle's file, so no two files read as one cycle
+pub writes-back : (places : ℕ) (file : List ℕ) (ps : List Pair) → AreBytes file → readCycle places file ≡ pairs ps → cycleBytes ps ≡ file
 unfolding cycleBytes
 writes-back places file ps small h =
     let a = accepted places file ps h in
-    let n : length ps ≡ numberAt file 0 = length-read (numberAt file 0) none (drop 2 file) ps (a .reads) in
+    let n : length ps ≡ word file 0 = length-read (word file 0) none (drop 2 file) ps (a .reads) in
     ap (λ (k : ℕ). bytesOf k ++ pairsBytes none ps) n
-    ∙ ap (λ (l : List ℕ). bytesOf (numberAt file 0) ++ l) (pairs-kept (numberAt file 0) none (drop 2 file) ps (λ i. rw getD-drop (small (2 + i))) (a .reads))
+    ∙ ap (λ (l : List ℕ). bytesOf (word file 0) ++ l) (pairs-kept (word file 0) none (drop 2 file) ps (λ i. rw getD-drop (small (2 + i))) (a .reads))
     ∙ ap (λ (l : List ℕ). l ++ drop 2 file) (sym (field-kept true file 0 small (rw zero-add (a .long))))
     ∙ take-append-drop 2 file
 
-pub reads-cycles : ReadsCycles
+-- what is read is a cycle, and has its places
+pub reads-cycles : (places : ℕ) (file : List ℕ) (ps : List Pair) → readCycle places file ≡ pairs ps → (1 ≤ length ps) × (length ps ≤ 512) × (length ps ≤ places)
 reads-cycles places file ps h =
     let a = accepted places file ps h in
-    let c = countIn-true (numberAt file 0) (a .counted) in
-    let n : length ps ≡ numberAt file 0 = length-read (numberAt file 0) none (drop 2 file) ps (a .reads) in
+    let c = countIn-true (word file 0) (a .counted) in
+    let n : length ps ≡ word file 0 = length-read (word file 0) none (drop 2 file) ps (a .reads) in
     rw n (c .0, c .1, a .room)

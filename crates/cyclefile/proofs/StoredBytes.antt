@@ -10,12 +10,11 @@ use lib.ListN.{length, getD, set, drop, length-append, drop-of-length-le}
 use borrow.Author.Tests.{lt-ltb, le-ltb}
 use lib.Seq.{sets, sets-eq, drop-cons}
 use Rattle.pairs.specs.declared.Pair.{Pair}
-use Rattle.pairs.specs.Pairs.{noPair}
+use Rattle.pairs.specs.Pairs.{countIn, laidOver, noPair}
 use Rattle.cyclefile.proofs.Fields.{fieldLength-small}
-use Rattle.cyclefile.specs.Refusals.{wrongCount, noRoom}
-use Rattle.cyclefile.specs.declared.Written.the-variants.{Bytes, Refused as NotWritten}
-use Rattle.cyclefile.specs.Steps.{written}
-use Rattle.cyclefile.specs.File.{countIn, bytesOf, writeNumber, bytesAfter, laidOver, Before, none, after, gapStands, sizeStands, mapByte, fieldBytes, fieldLength, pairBytes, pairsBytes, cycleBytes}
+use Rattle.cyclefile.specs.declared.writing.Written.the-variants.{Bytes, Refused as NotWritten}
+use Rattle.cyclefile.specs.InnerPromises.{writeAnswer}
+use Rattle.cyclefile.specs.File.{bytesOf, writeNumber, bytesAfter, Before, none, behind, gapStands, sizeStands, mapByte, fieldBytes, fieldLength, pairBytes, pairsBytes, cycleBytes}
 
 pub length-fieldBytes : (t : Bool) (n : ℕ) → length (fieldBytes t n) ≡ fieldLength t
 length-fieldBytes true n = refl
@@ -33,7 +32,7 @@ unfolding cycleBytes
 length-cycleBytes ps = omega arith
 
 -- the bytes of the pairs from i on are those of pair i, and of the pairs behind it
-pub pairsBytes-next : (before : Before) (ps : List Pair) (i : ℕ) → i < length ps → pairsBytes before (drop i ps) ≡ pairBytes before (getD ps i noPair) ++ pairsBytes (after (getD ps i noPair)) (drop (i + 1) ps)
+pub pairsBytes-next : (before : Before) (ps : List Pair) (i : ℕ) → i < length ps → pairsBytes before (drop i ps) ≡ pairBytes before (getD ps i noPair) ++ pairsBytes (behind (getD ps i noPair)) (drop (i + 1) ps)
 unfolding pairsBytes
 pairsBytes-next before ps i h = rw (drop-cons ps i noPair, add-one)
 
@@ -50,12 +49,12 @@ pair-stored before p l at =
 
 -- what is left to write after a pair
 pub left-next : (before : Before) (ps : List Pair) (i at n : ℕ) → i < length ps → at + length (pairsBytes before (drop i ps)) ≡ n
-    → at + length (pairBytes before (getD ps i noPair)) + length (pairsBytes (after (getD ps i noPair)) (drop (i + 1) ps)) ≡ n
-left-next before ps i at n h e = omega (arith, e, ap length (pairsBytes-next before ps i h), length-append (pairBytes before (getD ps i noPair)) (pairsBytes (after (getD ps i noPair)) (drop (i + 1) ps)))
+    → at + length (pairBytes before (getD ps i noPair)) + length (pairsBytes (behind (getD ps i noPair)) (drop (i + 1) ps)) ≡ n
+left-next before ps i at n h e = omega (arith, e, ap length (pairsBytes-next before ps i h), length-append (pairBytes before (getD ps i noPair)) (pairsBytes (behind (getD ps i noPair)) (drop (i + 1) ps)))
 
 pub stored-next : (before : Before) (ps : List Pair) (i at : ℕ) (file : List ℕ) → i < length ps
-    → sets (sets file at (pairBytes before (getD ps i noPair))) (at + length (pairBytes before (getD ps i noPair))) (pairsBytes (after (getD ps i noPair)) (drop (i + 1) ps)) ≡ sets file at (pairsBytes before (drop i ps))
-stored-next before ps i at file h = sym (sets-append file at (pairBytes before (getD ps i noPair)) (pairsBytes (after (getD ps i noPair)) (drop (i + 1) ps))) ∙ ap (sets file at) (sym (pairsBytes-next before ps i h))
+    → sets (sets file at (pairBytes before (getD ps i noPair))) (at + length (pairBytes before (getD ps i noPair))) (pairsBytes (behind (getD ps i noPair)) (drop (i + 1) ps)) ≡ sets file at (pairsBytes before (drop i ps))
+stored-next before ps i at file h = sym (sets-append file at (pairBytes before (getD ps i noPair)) (pairsBytes (behind (getD ps i noPair)) (drop (i + 1) ps))) ∙ ap (sets file at) (sym (pairsBytes-next before ps i h))
 
 pub left-none : (before : Before) (ps : List Pair) (i : ℕ) → length ps ≤ i → pairsBytes before (drop i ps) ≡ []
 unfolding pairsBytes
@@ -64,7 +63,7 @@ left-none before ps i h = rw (drop-of-length-le ps h)
 -- ---- the whole file, by cases
 
 module _ (ps : List Pair) (old : List ℕ) where
-  pub bad-count : countIn (length ps) ≡ false → (NotWritten wrongCount ≡ written (length old) ps) × (old ≡ bytesAfter ps old)
+  pub bad-count : countIn (length ps) ≡ false → (NotWritten 12 ≡ writeAnswer (length old) ps) × (old ≡ bytesAfter ps old)
   unfolding writeNumber
   bad-count h = simp h (refl, refl)
 
@@ -76,11 +75,11 @@ module _ (ps : List Pair) (old : List ℕ) where
       ∙ ap (λ (k : ℕ). cycleBytes ps ++ drop k old) (zero-add (length (cycleBytes ps)))
 
   module _ (counted : countIn (length ps) ≡ true) where
-    pub few-bytes : length old < length (cycleBytes ps) → (NotWritten noRoom ≡ written (length old) ps) × (old ≡ bytesAfter ps old)
+    pub few-bytes : length old < length (cycleBytes ps) → (NotWritten 20 ≡ writeAnswer (length old) ps) × (old ≡ bytesAfter ps old)
     unfolding writeNumber
     few-bytes h = simp (counted, lt-ltb (length old) (length (cycleBytes ps)) h) (refl, refl)
 
     pub stored-whole : length (cycleBytes ps) ≤ length old
-        → (Bytes (length (cycleBytes ps)) ≡ written (length old) ps) × (sets (sets old 0 (bytesOf (length ps))) 2 (pairsBytes none ps) ≡ bytesAfter ps old)
+        → (Bytes (length (cycleBytes ps)) ≡ writeAnswer (length old) ps) × (sets (sets old 0 (bytesOf (length ps))) 2 (pairsBytes none ps) ≡ bytesAfter ps old)
     unfolding writeNumber
     stored-whole h = simp (counted, le-ltb (length old) (length (cycleBytes ps)) h) (refl, count-and-pairs h)

@@ -1,12 +1,11 @@
 -- The file of a cycle of 16-bit numbers is made of bytes, so it can be read and written back.
-use Prim.Native.Nat.{ℕ, zero, suc, _/_, _%_, _<_}
+use Prim.Native.Nat.{ℕ, zero, suc, _/_, _%_, _≤_, _<_}
 use native.Mathlib.Omega.{arith}
 use mathlib.Core.Bool.{Bool, true, false}
 use mathlib.Core.List.{List, [], _∷_, _++_}
 use lib.ListN.{length}
 use Rattle.pairs.specs.declared.Pair.{Pair}
-use Rattle.cyclefile.specs.File.{Before, none, after, bytesOf, gapStands, sizeStands, mapByte, fieldBytes, pairBytes, pairsBytes, cycleBytes}
-use Rattle.cyclefile.specs.Statements.{AreBytes, Words, WritesBytes}
+use Rattle.cyclefile.specs.File.{AreBytes, Words, Before, none, behind, bytesOf, gapStands, sizeStands, mapByte, fieldBytes, pairBytes, pairsBytes, cycleBytes}
 
 no-bytes : AreBytes []
 no-bytes i = omega arith
@@ -43,8 +42,8 @@ pair-bytes before p g s =
 all-bytes : (before : Before) (ps : List Pair) → Words ps → AreBytes (pairsBytes before ps)
 unfolding pairsBytes
 all-bytes before [] w = no-bytes
-all-bytes before (p ∷ ps) w = and-bytes (pairBytes before p) (pairsBytes (after p) ps) (pair-bytes before p (w .0) (w .1 .0)) (all-bytes (after p) ps (w .1 .1))
+all-bytes before (p ∷ ps) w = and-bytes (pairBytes before p) (pairsBytes (behind p) ps) (pair-bytes before p (w .0) (w .1 .0)) (all-bytes (behind p) ps (w .1 .1))
 
-pub writes-bytes : WritesBytes
+pub writes-bytes : (ps : List Pair) → length ps ≤ 512 → Words ps → AreBytes (cycleBytes ps)
 unfolding cycleBytes
 writes-bytes ps few w = and-bytes (bytesOf (length ps)) (pairsBytes none ps) (number-bytes (length ps) (omega arith)) (all-bytes none ps w)

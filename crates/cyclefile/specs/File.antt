@@ -2,30 +2,26 @@
 -- (bit 0 gap, bit 1 size) and 2 bytes for each bit that stands, gap before size, high byte first. The first pair has both fields. After it, a
 -- field left out equals the pair's before it, and it is left out exactly when equal."
 -- And "What each operation turns down, in order", "Reading a cycle" and "Writing a cycle".
-use Prim.Native.Nat.{ℕ, zero, suc, _+_, _*_, _/_, _%_}
+use Prim.Native.Nat.{ℕ, zero, suc, _+_, _/_, _%_, _<_}
 use mathlib.Core.Path.{_≡_}
 use mathlib.Core.List.{List, [], _∷_, _++_}
 use mathlib.Core.Bool.{Bool, true, false, cond, _&&_, _||_, not}
 use lib.ListN.{length, getD, drop}
-use lib.Dec.{leb, ltb, eqb}
+use lib.Dec.{ltb, eqb}
+use Rattle.spec.specs.File.{word}
 use Rattle.pairs.specs.declared.Pair.{Pair}
-use Rattle.pairs.specs.Pairs.{noPair}
-use Rattle.cyclefile.specs.declared.PairRead.{PairRead}
-use Rattle.cyclefile.specs.declared.PairRead.the-variants.{Taken, Stopped}
-use Rattle.cyclefile.specs.Refusals.{wrongCount, wrongMap, cut, bytesOver, notLeftOut, noRoom}
+use Rattle.pairs.specs.Pairs.{countIn, noPair, laidOver}
+use Rattle.cyclefile.specs.declared.reading.CycleFile.{CycleFile}
+use Rattle.cyclefile.specs.declared.reading.CycleFile.the-variants.{Pairs, Refused}
 
 -- the pair before the one that is written or read
 pub data Before : Type 0 where
   none : Before
-  after : Pair → Before
+  behind : Pair → Before
 
 abbrev pub isFirst : Before → Bool
 isFirst none = true
-isFirst (after q) = false
-
--- "1 to 512 of them"
-abbrev pub countIn : ℕ → Bool
-countIn n = leb 1 n && leb n 512
+isFirst (behind q) = false
 
 -- ---- Writing
 
@@ -36,7 +32,7 @@ bytesOf n = n / 256 ∷ n % 256 ∷ []
 -- whether a field stands: in the first pair always; after it, it is left out exactly when it equals the one before
 abbrev pub stands : Before → (Pair → ℕ) → Pair → Bool
 stands none field p = true
-stands (after q) field p = not (eqb (field p) (field q))
+stands (behind q) field p = not (eqb (field p) (field q))
 
 abbrev pub gapStands : Before → Pair → Bool
 gapStands before p = stands before (λ (q : Pair). q .gap) p
@@ -56,7 +52,7 @@ pairBytes before p = mapByte (gapStands before p) (sizeStands before p) ∷ (fie
 
 unfoldable pub pairsBytes : Before → List Pair → List ℕ
 pairsBytes before [] = []
-pairsBytes before (p ∷ ps) = pairBytes before p ++ pairsBytes (after p) ps
+pairsBytes before (p ∷ ps) = pairBytes before p ++ pairsBytes (behind p) ps
 
 -- the file of a cycle
 unfoldable pub cycleBytes : List Pair → List ℕ
@@ -64,7 +60,7 @@ cycleBytes ps = bytesOf (length ps) ++ pairsBytes none ps
 
 -- "Writing a cycle: 12; 20 the lent bytes are fewer than the file": the number for so many lent bytes, 0 where the file is written
 unfoldable pub writeNumber : ℕ → List Pair → ℕ
-writeNumber room ps = cond (not (countIn (length ps))) wrongCount (cond (ltb room (length (cycleBytes ps))) noRoom 0)
+writeNumber room ps = cond (not (countIn (length ps))) 12 (cond (ltb room (length (cycleBytes ps))) 20 0)
 
 -- ---- Reading
 
@@ -72,10 +68,6 @@ writeNumber room ps = cond (not (countIn (length ps))) wrongCount (cond (ltb roo
 pub data CycleRead : Type 0 where
   pairs : List Pair → CycleRead
   refused : ℕ → CycleRead
-
--- the 2-byte number at i
-abbrev pub numberAt : List ℕ → ℕ → ℕ
-numberAt b i = getD b i 0 * 256 + getD b (i + 1) 0
 
 -- the bits of a map byte
 abbrev pub hasGap : ℕ → Bool
@@ -98,32 +90,38 @@ bytesTaken m = 1 + fieldLength (hasGap m) + fieldLength (hasSize m)
 -- what a field left out equals (no first pair that is read lacks one)
 abbrev pub lastPair : Before → Pair
 lastPair none = noPair
-lastPair (after q) = q
+lastPair (behind q) = q
 
 -- the pair whose map byte and fields b starts with, after the pair q
 abbrev pub pairAt : Pair → List ℕ → Pair
 pairAt q b =
     record {
-      gap = cond (hasGap (getD b 0 0)) (numberAt b 1) (q .gap);
-      size = cond (hasSize (getD b 0 0)) (numberAt b (1 + fieldLength (hasGap (getD b 0 0)))) (q .size);
+      gap = cond (hasGap (getD b 0 0)) (word b 1) (q .gap);
+      size = cond (hasSize (getD b 0 0)) (word b (1 + fieldLength (hasGap (getD b 0 0)))) (q .size);
     }
 
 -- "a field that should be left out" stands
 abbrev pub standsInVain : Before → ℕ → Pair → Bool
 standsInVain before m p = (hasGap m && not (gapStands before p)) || (hasSize m && not (sizeStands before p))
 
+-- what reading one pair gives: the pair and how many bytes it takes, or a refusal
+pub data PairRead : Type 0 where
+  Taken : Pair → ℕ → PairRead
+  Stopped : ℕ → PairRead
+
 -- "pair by pair 18 no map byte, 17 bits 2 to 7 stand or a first pair lacks a field, 18 a field is cut, 19 a field that should be left out"
 unfoldable pub readPair : Before → List ℕ → PairRead
 readPair before b =
-    cond (eqb (length b) 0) (Stopped cut)
-    (cond (mapIsWrong before (getD b 0 0)) (Stopped wrongMap)
-    (cond (ltb (length b) (bytesTaken (getD b 0 0))) (Stopped cut)
-    (cond (standsInVain before (getD b 0 0) (pairAt (lastPair before) b)) (Stopped notLeftOut)
+    cond (eqb (length b) 0) (Stopped 18)
+    (cond (mapIsWrong before (getD b 0 0)) (Stopped 17)
+    (cond (ltb (length b) (bytesTaken (getD b 0 0))) (Stopped 18)
+    (cond (standsInVain before (getD b 0 0) (pairAt (lastPair before) b)) (Stopped 19)
     (Taken (pairAt (lastPair before) b) (bytesTaken (getD b 0 0))))))
 
-abbrev pub andThen : PairRead → (Pair → ℕ → CycleRead) → CycleRead
-andThen (Taken p taken) rest = rest p taken
-andThen (Stopped n) rest = refused n
+-- what follows a pair that is taken, or a refusal
+abbrev pub afterPair : {R : Type 0} → PairRead → (ℕ → R) → (Pair → ℕ → R) → R
+afterPair (Taken p taken) stop rest = rest p taken
+afterPair (Stopped n) stop rest = stop n
 
 abbrev pub withFirst : Pair → CycleRead → CycleRead
 withFirst p (pairs ps) = pairs (p ∷ ps)
@@ -131,52 +129,55 @@ withFirst p (refused n) = refused n
 
 -- n pairs, and "last 18 bytes over"
 unfoldable pub readPairs : ℕ → Before → List ℕ → CycleRead
-readPairs zero before b = cond (eqb (length b) 0) (pairs []) (refused bytesOver)
-readPairs (suc n) before b = andThen (readPair before b) (λ (p : Pair) (taken : ℕ). withFirst p (readPairs n (after p) (drop taken b)))
+readPairs zero before b = cond (eqb (length b) 0) (pairs []) (refused 18)
+readPairs (suc n) before b = afterPair (readPair before b) refused (λ (p : Pair) (taken : ℕ). withFirst p (readPairs n (behind p) (drop taken b)))
 
 -- "18 under 2 bytes; 12; 20 the lent list has fewer places than the count; then pair by pair .."
 unfoldable pub readCycle : ℕ → List ℕ → CycleRead
 readCycle places file =
-    cond (ltb (length file) 2) (refused cut)
-    (cond (not (countIn (numberAt file 0))) (refused wrongCount)
-    (cond (ltb places (numberAt file 0)) (refused noRoom)
-    (readPairs (numberAt file 0) none (drop 2 file))))
+    cond (ltb (length file) 2) (refused 18)
+    (cond (not (countIn (word file 0))) (refused 12)
+    (cond (ltb places (word file 0)) (refused 20)
+    (readPairs (word file 0) none (drop 2 file))))
 
--- ---- What lent places hold afterwards
+-- the pairs in front of the first refusal, and all n where there is none
+unfoldable pub passedPairs : ℕ → Before → List ℕ → List Pair
+passedPairs zero before b = []
+passedPairs (suc n) before b = afterPair (readPair before b) (λ (m : ℕ). []) (λ (p : Pair) (taken : ℕ). p ∷ passedPairs n (behind p) (drop taken b))
 
--- "Places past the count keep their contents", "Bytes past the file keep theirs"
-abbrev pub laidOver : {A : Type 0} → List A → List A → List A
-laidOver new old = new ++ drop (length new) old
+-- of a whole file: what is stored where each pair is stored as it is read
+unfoldable pub storedPairs : ℕ → List ℕ → List Pair
+storedPairs places file = cond (ltb (length file) 2 || not (countIn (word file 0)) || ltb places (word file 0)) [] (passedPairs (word file 0) none (drop 2 file))
 
--- a lent list of pairs after reading: "A refusal yields its number .. and writes to no lent list or bytes"
-abbrev pub placesAfter : CycleRead → List Pair → List Pair
-placesAfter (pairs ps) old = laidOver ps old
-placesAfter (refused n) old = old
+-- ---- What calls answer, and what they leave in lent places
+
+-- the answer of a reader that stores the pairs: how many they are, or the refusal
+abbrev pub fileAnswer : CycleRead → CycleFile
+fileAnswer (pairs ps) = Pairs (length ps)
+fileAnswer (refused n) = Refused n
+
+-- reading into lent places and a lent count, which hold places′ and count′ afterwards: "A refusal yields its number .. and writes to no
+-- lent list or bytes"
+abbrev pub Reads : CycleRead → (places : List Pair) (count answer : ℕ) (places′ : List Pair) (count′ : ℕ) → Type 0
+Reads (pairs ps) places count answer places′ count′ = (answer ≡ 0) × (places′ ≡ laidOver ps places) × (count′ ≡ length ps)
+Reads (refused n) places count answer places′ count′ = (answer ≡ n) × (places′ ≡ places) × (count′ ≡ count)
 
 -- lent bytes after writing
 abbrev pub bytesAfter : List Pair → List ℕ → List ℕ
 bytesAfter ps old = cond (eqb (writeNumber (length old) ps) 0) (laidOver (cycleBytes ps) old) old
-
--- ---- What a call through the C interface answers, and what it leaves behind each pointer
-
--- the number that reading gives: 0 where it gives pairs
-abbrev pub numberOf : CycleRead → ℕ
-numberOf (pairs ps) = 0
-numberOf (refused n) = n
-
--- the lent count afterwards
-abbrev pub countAfter : CycleRead → ℕ → ℕ
-countAfter (pairs ps) old = length ps
-countAfter (refused n) old = old
-
--- reading a file into lent places and a lent count, which hold places′ and count′ afterwards
-pub record Reads (file : List ℕ) (places : List Pair) (count : ℕ) (answer : ℕ) (places′ : List Pair) (count′ : ℕ) : Type 0 where
-  pub answer-is : answer ≡ numberOf (readCycle (length places) file)
-  pub places-are : places′ ≡ placesAfter (readCycle (length places) file) places
-  pub count-is : count′ ≡ countAfter (readCycle (length places) file) count
 
 -- writing pairs into lent bytes and a lent length, which hold file′ and written′ afterwards
 pub record Writes (ps : List Pair) (file : List ℕ) (written : ℕ) (answer : ℕ) (file′ : List ℕ) (written′ : ℕ) : Type 0 where
   pub answer-is : answer ≡ writeNumber (length file) ps
   pub bytes-are : file′ ≡ bytesAfter ps file
   pub written-is : written′ ≡ cond (eqb (writeNumber (length file) ps) 0) (length (cycleBytes ps)) written
+
+-- ---- What is written of 16-bit numbers is made of bytes
+
+abbrev pub AreBytes : List ℕ → Type 0
+AreBytes file = (i : ℕ) → getD file i 0 < 256
+
+-- each number of each pair has 16 bits
+abbrev pub Words : List Pair → Type 0
+Words [] = Unit {0}
+Words (p ∷ ps) = (p .gap < 65536) × ((p .size < 65536) × Words ps)

@@ -1,5 +1,2 @@
-pub mod Refusals
 pub mod File
-pub mod Steps
-pub mod OnePass
-pub mod Statements
+pub mod InnerPromises

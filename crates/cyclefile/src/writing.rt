@@ -1,22 +1,55 @@
 // Writing a cycle file: its length is known before the first byte is stored, so
 // that a refusal leaves the lent bytes alone.
-use crate::Cursor;
-use crate::Written;
-use crate::begin;
-use crate::count_in;
 use crate::field_length;
-use crate::gap_stands;
-use crate::size_stands;
 use pairs::Flat;
 use pairs::Pair;
 use spec::refusal;
 ghost use mathlib.Core.Path.{_≡_};
-ghost use Prim.Native.Nat.{_+_, _*_, _/_, _≤_, _<_};
+ghost use Prim.Native.Nat.{_+_, _/_, _≤_, _<_};
+ghost use mathlib.Core.List.{List};
 ghost use lib.Seq.{sets};
-ghost use lib.ListN.{length, getD, take};
-ghost use Rattle.cyclefile.specs.File.{none, fieldLength, mapByte, fieldBytes, pairBytes, pairsBytes, cycleBytes, bytesAfter, Writes};
-ghost use Rattle.cyclefile.specs.Steps.{beforeOf, past, written};
-ghost use Rattle.pairs.specs.Pairs.{noPair, pairsOf, flatPairs};
+ghost use lib.ListN.{length, getD};
+ghost use Rattle.pairs.specs.declared.Pair.{Pair};
+ghost use Rattle.pairs.specs.Pairs.{noPair, pairsOf, Lays};
+ghost use Rattle.cyclefile.specs.File.{none, gapStands, sizeStands, fieldLength, mapByte, fieldBytes, pairBytes, pairsBytes, cycleBytes, bytesAfter, Writes};
+ghost use Rattle.cyclefile.specs.InnerPromises.{start, beforeOf, past, writeAnswer};
+
+// What writing a file gives: how many bytes it has, or a refusal.
+enum Written {
+    Bytes(usize),
+    Refused(u32),
+}
+
+// Where writing stands: `at` bytes are passed, and `last` is the pair passed last, where the next is not the first.
+struct Cursor {
+    at: usize,
+    first: bool,
+    last: Pair,
+}
+
+// Before the first pair, whose map byte follows the count.
+fn begin() -> Cursor
+    ensures { λ r. ⌜ r ≡ start ⌝ }
+{
+    Cursor {
+        at: 2,
+        first: true,
+        last: Pair { gap: 0, size: 0 },
+    }
+}
+
+// Whether a pair's gap is to stand in the file, and whether its size is.
+fn gap_stands(c: Cursor, pair: Pair) -> bool
+    ensures { λ r. ⌜ r ≡ gapStands (beforeOf c) pair ⌝ }
+{
+    c.first | (pair.gap != c.last.gap)
+}
+
+fn size_stands(c: Cursor, pair: Pair) -> bool
+    ensures { λ r. ⌜ r ≡ sizeStands (beforeOf c) pair ⌝ }
+{
+    c.first | (pair.size != c.last.size)
+}
 
 // Pair i of a flat slice.
 fn pair_in(words: &[u16], i: usize) -> Pair
@@ -119,12 +152,12 @@ fn put_pairs(words: &[u16], file: &mut [u8])
 }
 
 // Writes the cycle of a flat slice: gap, size, gap, size, ..
-pub fn write_flat(words: &[u16], file: &mut [u8]) -> Written
-    ensures { λ r. ⌜ (r ≡ written (length (now (file .entry))) (pairsOf (now (words .entry))))
+fn write_flat(words: &[u16], file: &mut [u8]) -> Written
+    ensures { λ r. ⌜ (r ≡ writeAnswer (length (now (file .entry))) (pairsOf (now (words .entry))))
         × (now (file .exit) ≡ bytesAfter (pairsOf (now (words .entry))) (now (file .entry))) ⌝ }
 {
     let count = words.len() / 2;
-    if !count_in(count) {
+    if !pairs::count_in(count) {
         return Written::Refused(refusal::COUNT);
     }
     let length = file_length(words);
@@ -136,26 +169,17 @@ pub fn write_flat(words: &[u16], file: &mut [u8]) -> Written
     Written::Bytes(length)
 }
 
-// Writes the cycle of the first pairs of an array.
-fn write_words(words: &[u16; 1024], count: usize, file: &mut [u8]) -> Written
-    requires { ⌜ count ≤ 512 ⌝ }
-    ensures { λ r. ⌜ (r ≡ written (length (now (file .entry))) (pairsOf (take (2 * count) (now (words .entry)))))
-        × (now (file .exit) ≡ bytesAfter (pairsOf (take (2 * count) (now (words .entry)))) (now (file .entry))) ⌝ }
-{
-    let all = &words[..];
-    write_flat(&all[..2 * count], file)
-}
-
 // Writes the cycle that a flat form holds, and tells the length of the file where it is written.
-pub fn write_unpacked(f: Flat, file: &mut [u8], written: &mut u32) -> u32
-    ensures { λ r. ⌜ Writes (flatPairs f) (now (file .entry)) (now (written .entry)) r (now (file .exit)) (now (written .exit)) ⌝ }
+pub fn write_unpacked(flat: Flat, file: &mut [u8], written: &mut u32) -> u32
+    ensures { λ r. ⌜ ((ps : List Pair) → Lays flat ps → Writes ps (now (file .entry)) (now (written .entry)) r (now (file .exit)) (now (written .exit))) ⌝ }
 {
-    let count = f.count;
-    if !count_in(count) {
+    let count = flat.count;
+    if !pairs::count_in(count) {
         return refusal::COUNT;
     }
-    let words = f.words;
-    match write_words(&words, count, file) {
+    let words = flat.words;
+    let all = &words[..];
+    match write_flat(&all[..2 * count], file) {
         Written::Bytes(length) => {
             *written = length as u32;
             0

@@ -26,11 +26,9 @@ use Rattle.even.proofs.EvenPlans.{even-plan-obeys, even-plan-longest, even-plan
 use Rattle.pairs.specs.declared.Pair.{Pair}
 use Rattle.cycle.specs.Cycles.{cycleRun}
 use Rattle.cycle.proofs.CyclesPassed.{passed-obeys}
-use Rattle.cycle.proofs.FlatForms.{same-number}
-use Rattle.cyclefile.specs.File.{CycleRead, pairs, refused, readCycle, writeNumber, placesAfter, bytesAfter}
+use Rattle.cyclefile.specs.File.{CycleRead, pairs, refused, readCycle, writeNumber, Reads, bytesAfter}
 use Rattle.cyclefile.proofs.RoundTrip.{reads-back, writes-back, reads-cycles}
 use Rattle.cyclefile.proofs.WrittenBytes.{writes-bytes}
-use Rattle.cyclefile.proofs.PairForms.{flat-writes-same}
 use Rattle.maxeltu.specs.Verdict.{verdictRead, verdictOf}
 use Rattle.demands.specs.Demands.{Demands}
 use Rattle.demands.proofs.Readings.{CycleRefusal, cycle-numbered}
@@ -46,8 +44,9 @@ report-is : (p : Plan) (i : ℕ) → proper p ≡ true → reportOf p i ≡ At (
 unfolding reportOf
 report-is p i ok = rw ok
 
-list-kept : (places n : ℕ) (file : List ℕ) (held : List Pair) → readCycle places file ≡ refused n → placesAfter (readCycle places file) held ≡ held
-list-kept places n file held e = rw e
+list-kept : (r : CycleRead) (held held′ : List Pair) (count count′ n : ℕ) → Reads r held count n held′ count′ → 0 < n → (held′ ≡ held) × (count′ ≡ count)
+list-kept (pairs ps) held held′ count count′ n h some = absurd (let z = h .0 in omega arith)
+list-kept (refused m) held held′ count count′ n h some = (h .1, h .2)
 
 bytes-kept : (c : List Pair) (held : List ℕ) → 0 < writeNumber (length held) c → bytesAfter c held ≡ held
 bytes-kept c held h = rw (ne-eqb (writeNumber (length held) c) 0 (λ z. omega arith))
@@ -88,7 +87,7 @@ unfolding Loaded
 demands = record {
   specification-read = spec-is-read;
   cycle-read = λ places file. cycle-is-read places file (readCycle places file) refl;
-  refused-list-kept = list-kept;
+  refused-list-kept = λ file held held′ count count′ n. list-kept (readCycle (length held) file) held held′ count count′ n;
   refused-bytes-kept = bytes-kept;
   stretch-sum = stretch-is-sum;
   required-supply = required-is-most;
@@ -98,8 +97,6 @@ demands = record {
   reads-back = reads-back;
   written-bytes = writes-bytes;
   writes-back = writes-back;
-  flat-checked = same-number;
-  flat-written = flat-writes-same;
   cycle-passed = passed-obeys;
   test-obeys = test-sound;
   even-obeys = even-plan-obeys;

@@ -7,10 +7,10 @@ use mathlib.Core.Bool.{Bool, true, false, cond, _&&_, not}
 use mathlib.Core.List.{List, [], _∷_}
 use lib.Dec.{ltb, eqb}
 use lib.ListN.{length, getD, drop}
+use Rattle.spec.specs.File.{word}
 use Rattle.pairs.specs.declared.Pair.{Pair}
-use Rattle.cyclefile.specs.declared.PairRead.{PairRead}
-use Rattle.cyclefile.specs.declared.PairRead.the-variants.{Taken, Stopped}
-use Rattle.cyclefile.specs.File.{Before, none, after, CycleRead, pairs, refused, countIn, numberAt, mapIsWrong, bytesTaken, lastPair, pairAt, standsInVain, readPair, andThen, withFirst, readPairs, readCycle}
+use Rattle.pairs.specs.Pairs.{countIn}
+use Rattle.cyclefile.specs.File.{Before, none, behind, CycleRead, pairs, refused, PairRead, Taken, Stopped, mapIsWrong, bytesTaken, lastPair, pairAt, standsInVain, readPair, afterPair, withFirst, readPairs, readCycle}
 
 -- what holds of both choices holds of the one taken
 either : {A : Type 0} (P : A → Type 0) (b : Bool) {x y : A} → P x → P y → P (cond b x y)
@@ -59,7 +59,7 @@ first-refuses : (p : Pair) (r : CycleRead) → RefusesWith r → RefusesWith (wi
 first-refuses p (pairs ps) h = read-refuses (p ∷ ps)
 first-refuses p (refused n) h = h
 
-then-refuses : (r : PairRead) (rest : Pair → ℕ → CycleRead) → StopsWith r → ((p : Pair) (taken : ℕ) → RefusesWith (rest p taken)) → RefusesWith (andThen r rest)
+then-refuses : (r : PairRead) (rest : Pair → ℕ → CycleRead) → StopsWith r → ((p : Pair) (taken : ℕ) → RefusesWith (rest p taken)) → RefusesWith (afterPair r refused rest)
 unfolding StopsWith
 then-refuses (Taken p taken) rest s h = h p taken
 then-refuses (Stopped n) rest s h = refuses n (s .0) (s .1)
@@ -68,8 +68,8 @@ pairs-refuse : (n : ℕ) (before : Before) (b : List ℕ) → RefusesWith (readP
 unfolding readPairs
 pairs-refuse zero before b = either RefusesWith (eqb (length b) 0) (read-refuses []) (refuses 18 (omega arith) (omega arith))
 pairs-refuse (suc n) before b =
-    then-refuses (readPair before b) (λ (p : Pair) (taken : ℕ). withFirst p (readPairs n (after p) (drop taken b))) (pair-stops before b)
-    (λ p taken. first-refuses p (readPairs n (after p) (drop taken b)) (pairs-refuse n (after p) (drop taken b)))
+    then-refuses (readPair before b) (λ (p : Pair) (taken : ℕ). withFirst p (readPairs n (behind p) (drop taken b))) (pair-stops before b)
+    (λ p taken. first-refuses p (readPairs n (behind p) (drop taken b)) (pairs-refuse n (behind p) (drop taken b)))
 
 unfoldable Numbered : CycleRead → Type 0
 Numbered (pairs ps) = Unit {0}
@@ -88,9 +88,9 @@ all-numbered : (places : ℕ) (file : List ℕ) → Numbered (readCycle places f
 unfolding readCycle
 all-numbered places file =
     either Numbered (ltb (length file) 2) (number 18 (inr (omega arith, omega arith)))
-    (either Numbered (not (countIn (numberAt file 0))) (number 12 (inl refl))
-    (either Numbered (ltb places (numberAt file 0)) (number 20 (inr (omega arith, omega arith)))
-    (numbered (readPairs (numberAt file 0) none (drop 2 file)) (pairs-refuse (numberAt file 0) none (drop 2 file)))))
+    (either Numbered (not (countIn (word file 0))) (number 12 (inl refl))
+    (either Numbered (ltb places (word file 0)) (number 20 (inr (omega arith, omega arith)))
+    (numbered (readPairs (word file 0) none (drop 2 file)) (pairs-refuse (word file 0) none (drop 2 file)))))
 
 pub cycle-numbered : (places : ℕ) (file : List ℕ) (n : ℕ) → readCycle places file ≡ refused n → CycleRefusal n
 unfolding Numbered

@@ -29,9 +29,7 @@ use Rattle.even.specs.Even.{evenPlan, evenly}
 use Rattle.pairs.specs.declared.Pair.{Pair}
 use Rattle.cycle.specs.Cycles.{cycleRun}
 use Rattle.cycle.specs.Check.{checkNumber}
-use Rattle.cycle.specs.Statements.{FlatSameNumber}
-use Rattle.cyclefile.specs.File.{pairs, refused, cycleBytes, readCycle, writeNumber, placesAfter, bytesAfter}
-use Rattle.cyclefile.specs.Statements.{AreBytes, Words, FlatWritesSame}
+use Rattle.cyclefile.specs.File.{pairs, refused, cycleBytes, readCycle, writeNumber, Reads, bytesAfter, AreBytes, Words}
 use Rattle.maxeltu.specs.Verdict.{verdictOf}
 
 pub record Demands : Type 0 where
@@ -43,8 +41,8 @@ pub record Demands : Type 0 where
   pub cycle-read : (places : ℕ) (file : List ℕ)
       → ((c : List Pair) × ((readCycle places file ≡ pairs c) × ((1 ≤ length c) × ((length c ≤ 512) × (length c ≤ places)))))
       ⊎ ((n : ℕ) × ((readCycle places file ≡ refused n) × ((n ≡ 12) ⊎ ((17 ≤ n) × (n ≤ 20)))))
-  pub refused-list-kept : (places n : ℕ) (file : List ℕ) (held : List Pair)
-      → readCycle places file ≡ refused n → placesAfter (readCycle places file) held ≡ held
+  pub refused-list-kept : (file : List ℕ) (held held′ : List Pair) (count count′ n : ℕ)
+      → Reads (readCycle (length held) file) held count n held′ count′ → 0 < n → (held′ ≡ held) × (count′ ≡ count)
   pub refused-bytes-kept : (c : List Pair) (held : List ℕ)
       → 0 < writeNumber (length held) c → bytesAfter c held ≡ held
   -- 2. The figures are those that document 01 defines, over every stretch and every k.
@@ -67,9 +65,6 @@ pub record Demands : Type 0 where
   pub written-bytes : (c : List Pair) → length c ≤ 512 → Words c → AreBytes (cycleBytes c)
   -- a file that is read is the one that the writer makes of its contents
   pub writes-back : (places : ℕ) (file : List ℕ) (c : List Pair) → AreBytes file → readCycle places file ≡ pairs c → cycleBytes c ≡ file
-  -- of a list of pairs that is laid flat, the check and the writer say what they say of the list
-  pub flat-checked : FlatSameNumber
-  pub flat-written : FlatWritesSame
   -- 3. For every accepted specification:
 
   -- a cycle of 1 to 512 pairs is passed exactly when its endless run obeys the four rules at every starting minute from 0 on

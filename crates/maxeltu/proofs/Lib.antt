@@ -1,2 +1,3 @@
 pub mod GivenSpec
 pub mod VerdictCases
+pub mod FlatReadings

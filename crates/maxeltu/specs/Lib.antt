@@ -1,2 +1,3 @@
 pub mod Calls
 pub mod Verdict
+pub mod InnerPromises

@@ -6,8 +6,6 @@ use Rattle.spec.specs.declared.SpecRead.{SpecRead}
 use Rattle.spec.specs.declared.SpecRead.the-variants.{Accepted, Refused as NotRead}
 use Rattle.spec.specs.File.{readSpec}
 use Rattle.cycle.specs.Check.{checkNumber}
-use Rattle.cyclefile.specs.declared.Judged.{Judged}
-use Rattle.cyclefile.specs.declared.Judged.the-variants.{Count, Refused}
 use Rattle.cyclefile.specs.File.{CycleRead, pairs, refused, readCycle}
 
 -- of what the two files are read to
@@ -18,8 +16,3 @@ verdictRead (Accepted s) (pairs ps) = checkNumber s ps
 
 unfoldable pub verdictOf : List ℕ → List ℕ → ℕ
 verdictOf spec cycle = verdictRead (readSpec spec) (readCycle 512 cycle)
-
--- the number of a judgement, 0 where it is a count
-abbrev pub judgedNumber : Judged → ℕ
-judgedNumber (Count n) = 0
-judgedNumber (Refused n) = n

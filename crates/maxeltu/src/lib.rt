@@ -1,21 +1,25 @@
-// What others call: the loader's call and the C interface of include/maxeltu.h, thin over the crates below. Every call answers 0 or the number of the refusal; a lent place is written only where
-// the answer is 0, and the condition of an inconsistent specification only where it is 7.
-use cyclefile::Judged;
+// What others call: the loader's call and the C interface of include/maxeltu.h, thin over the crates below. Every call answers 0 or the
+// number of the refusal; a lent place is written only where the answer is 0, and the condition of an inconsistent specification only
+// where it is 7.
 use cyclefile::reading;
+use cyclefile::reading::CycleFile;
 use cyclefile::writing;
 use families::Family;
+use pairs::Flat;
 use pairs::Pair;
 use plan::Kind;
 use plan::Plan;
 use spec::SpecRead;
 use spec::refusal;
 ghost use mathlib.Core.Path.{_≡_};
+ghost use lib.ListN.{length};
 ghost use Rattle.spec.specs.File.{readSpec};
 ghost use Rattle.cycle.specs.Check.{checkFileNumber};
-ghost use Rattle.cyclefile.specs.File.{Reads, Writes};
-ghost use Rattle.maxeltu.specs.Verdict.{verdictOf, judgedNumber};
+ghost use Rattle.cyclefile.specs.File.{readCycle, Reads, Writes};
 ghost use Rattle.families.specs.declared.Family.the-variants.{MinimumDemand, MaximumSupply};
 ghost use Rattle.answers.specs.Answers.{heldAfter};
+ghost use Rattle.maxeltu.specs.Verdict.{verdictOf};
+ghost use Rattle.maxeltu.specs.InnerPromises.{FlatReads};
 ghost use Rattle.maxeltu.specs.Calls.{consistencyCall, scheduleCall, testCall, evenCall, reportCall};
 
 // The loader's call: 0 exactly when both files are read and the cycle is passed, or the first number met, the specification's first.
@@ -27,22 +31,13 @@ pub extern "C" fn maxeltu_verdict(spec_bytes: &[u8], cycle_bytes: &[u8]) -> u32
     let SpecRead::Accepted(s) = read else {
         return spec::read_number(read);
     };
-    let parsed = reading::one_pass::parse(cycle_bytes);
-    let judged = parsed.judged;
-    let Judged::Count(count) = judged else {
-        return judged_number(judged);
-    };
-    let words = parsed.words;
-    let used = 2 * count;
-    cycle::check(s, &words[..used])
-}
-
-fn judged_number(judged: Judged) -> u32
-    ensures { λ r. ⌜ r ≡ judgedNumber judged ⌝ }
-{
-    match judged {
-        Judged::Count(_) => 0,
-        Judged::Refused(n) => n,
+    let mut words = [0u16; 1024];
+    match reading::read(cycle_bytes, pairs::MOST_PAIRS, &mut words) {
+        CycleFile::Pairs(count) => {
+            let used = 2 * count;
+            cycle::check(s, &words[..used])
+        }
+        CycleFile::Refused(n) => n,
     }
 }
 
@@ -199,21 +194,38 @@ pub extern "C" fn maxeltu_check_cycle(spec_bytes: &[u8], pairs: &[Pair]) -> u32
     cycle::check_unpacked_file(spec_bytes, pairs::unpack(pairs))
 }
 
-// Reads a cycle file into a lent list of pairs. Nothing is stored before the whole file is judged.
+// A cycle file's pairs, or none where it is refused, and the call's answer.
+struct FileRead {
+    flat: Flat,
+    number: u32,
+}
+
+// Reads a cycle file into words of its own, and tells the count where it can be read.
+fn read_flat(file: &[u8], places: usize, count: &mut u32) -> FileRead
+    ensures { λ r. ⌜ FlatReads (readCycle places (now (file .entry))) r (now (count .entry)) (now (count .exit)) ⌝ }
+{
+    let mut words = [0u16; 1024];
+    match reading::read(file, places, &mut words) {
+        CycleFile::Pairs(n) => {
+            *count = n as u32;
+            let flat = Flat { words, count: n };
+            FileRead { flat, number: 0 }
+        }
+        CycleFile::Refused(number) => {
+            let flat = Flat { words, count: 0 };
+            FileRead { flat, number }
+        }
+    }
+}
+
+// Reads a cycle file into a lent list of pairs. Nothing is stored there before the whole file is read.
 #[no_mangle]
 pub extern "C" fn maxeltu_read_cycle(file: &[u8], places: &mut [Pair], count: &mut u32) -> u32
-    ensures { λ r. ⌜ Reads (now (file .entry)) (now (places .entry)) (now (count .entry)) r (now (places .exit)) (now (count .exit)) ⌝ }
+    ensures { λ r. ⌜ Reads (readCycle (length (now (places .entry))) (now (file .entry))) (now (places .entry)) (now (count .entry)) r (now (places .exit)) (now (count .exit)) ⌝ }
 {
-    let b = reading::begin_reading(file, places.len(), count);
-    let todo = b.todo;
-    let mut c = b.cursor;
-    let mut i: usize = 0;
-    while i < todo {
-        c = reading::next(file, c);
-        places[i] = c.last;
-        i += 1;
-    }
-    b.number
+    let read = read_flat(file, places.len(), count);
+    pairs::pack(read.flat, places);
+    read.number
 }
 
 // Writes a lent list of pairs as a cycle file.

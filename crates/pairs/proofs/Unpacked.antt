@@ -1,20 +1,16 @@
--- Laws of the flat form of a list of pairs: what the words are while i pairs are laid, and that all of them are `unpacked`'s words.
--- Assumes nothing.
+-- Laws of the flat form of a list of pairs: what the words are while i pairs are laid, and what they are when all are. Assumes nothing.
 use mathlib.Core.Path.{_≡_, refl, sym, ap, _∙_}
-use Prim.Native.Nat.{ℕ, zero, suc, _+_, _-_, _*_, _≤_, _<_, zero-le}
+use Prim.Native.Nat.{ℕ, zero, suc, _+_, _-_, _*_, _≤_, _<_}
 use native.Mathlib.Numerals.{add-one}
 use native.Mathlib.Omega.{arith}
-use mathlib.Core.Bool.{Bool, true, false}
 use mathlib.Core.List.{List, [], _∷_, _++_, append-assoc}
-use lib.Dec.{leb}
 use lib.ListN.{length, getD, set, take, drop, replicate, length-append, length-drop, length-replicate}
 use lib.Seq.{length-take-le, take-suc, take-length, take-at, drop-cons, set-at}
-use native.Mathlib.Nat.{le-refl}
-use borrow.Author.Tests.{le-leb, lt-leb, leb-true}
 use Rattle.pairs.specs.declared.Pair.{Pair}
 use Rattle.pairs.specs.declared.Flat.{Flat}
-use Rattle.pairs.specs.Pairs.{noPair, flatten, pairsOf, padded, held, unpacked, flatPairs}
-use Rattle.pairs.proofs.FlatLists.{length-flatten, flatten-append, pairsOf-flatten}
+use Rattle.pairs.specs.Pairs.{noPair, flatten, Lays}
+use Rattle.pairs.proofs.FlatLists.{length-flatten, flatten-append}
+use Rattle.pairs.proofs.Counts.{fits, fits-all, fits-none}
 
 -- it stays shut: a proof that computes it has 1,024 terms
 unfoldable pub zeros : List ℕ
@@ -24,7 +20,7 @@ pub zeros-is : replicate 1024 0 ≡ zeros
 unfolding zeros
 zeros-is = refl
 
-pub length-zeros : length zeros ≡ 1024
+length-zeros : length zeros ≡ 1024
 unfolding zeros
 length-zeros = length-replicate {A = ℕ} 1024 0
 
@@ -62,62 +58,36 @@ laid-next ps i h k =
     twice : 2 * suc i ≡ suc (suc (2 * i))
     twice = omega arith
 
-pub padded-is : (l : List ℕ) → padded l ≡ l ++ drop (length l) zeros
-unfolding padded zeros
-padded-is l = ap (λ (r : List ℕ). l ++ r) (sym (drop-replicate (length l) 1024 0))
-
-held-cases : (n : ℕ) (t : Bool) → leb n 512 ≡ t → (held n ≤ n) × (held n ≤ 512)
-held-cases n true e = simp e (le-refl n, leb-true n 512 e)
-held-cases n false e = simp e (zero-le, zero-le)
-
-pub held-least : (n : ℕ) → (held n ≤ n) × (held n ≤ 512)
-held-least n = held-cases n (leb n 512) refl
-
-pub held-all : (n : ℕ) → n ≤ 512 → held n ≡ n
-held-all n h = simp (le-leb n 512 h)
-
-pub laid-all : (ps : List Pair) → laid ps (held (length ps)) ≡ unpacked ps .words
-unfolding unpacked
-laid-all ps = rw (padded-is, length-front ps (held (length ps)) (held-least (length ps) .0))
+-- what `unpack` says of its result
+abbrev pub Unpacks : List Pair → Flat → Type 0
+Unpacks ps flat =
+    (flat .count ≡ length ps)
+    × (length ps ≤ 512 → flat .words ≡ flatten ps ++ replicate (1024 - 2 * length ps) 0)
+    × (512 < length ps → flat .words ≡ replicate 1024 0)
 
 -- what is returned when i pairs are laid
 abbrev pub laidFlat : List Pair → ℕ → Flat
 laidFlat ps i = record { words = laid ps i; count = length ps }
 
-pub laid-done : (ps : List Pair) (i : ℕ) → i ≡ held (length ps) → laidFlat ps i ≡ unpacked ps
-unfolding unpacked
-laid-done ps i e = ap (laidFlat ps) e ∙ ap (λ (l : List ℕ). record { words = l; count = length ps }) (laid-all ps)
+laid-all : (ps : List Pair) → laid ps (length ps) ≡ flatten ps ++ replicate (1024 - 2 * length ps) 0
+unfolding zeros
+laid-all ps = rw (take-length, drop-replicate)
 
--- the first numbers of the flat form of at most 512 pairs are theirs
-pub unpacked-flat : (ps : List Pair) → length ps ≤ 512 → take (2 * length ps) (unpacked ps .words) ≡ flatten ps
-unfolding unpacked padded
-unpacked-flat ps h =
-    rw (held-all (length ps) h, take-length, take-at (flatten ps) (replicate (1024 - length (flatten ps)) 0) (2 * length ps) (length-flatten ps))
+laid-none : (ps : List Pair) → laid ps 0 ≡ replicate 1024 0
+unfolding zeros
+laid-none ps = refl
 
--- and so it holds those pairs
-pub unpacked-pairs : (ps : List Pair) → length ps ≤ 512 → pairsOf (take (2 * unpacked ps .count) (unpacked ps .words)) ≡ ps
-unfolding unpacked
-unpacked-pairs ps h = ap pairsOf (unpacked-flat ps h) ∙ pairsOf-flatten ps
+pub laid-done : (ps : List Pair) (i : ℕ) → i ≡ fits (length ps) 512 → Unpacks ps (laidFlat ps i)
+laid-done ps i e = (
+  refl,
+  λ few. ap (laid ps) (e ∙ fits-all (length ps) few) ∙ laid-all ps,
+  λ many. ap (laid ps) (e ∙ fits-none (length ps) 512 many) ∙ laid-none ps,
+)
 
-pub count-unpacked : (ps : List Pair) → unpacked ps .count ≡ length ps
-unfolding unpacked
-count-unpacked ps = refl
-
--- the pairs of a flat form, by its count
-pub flat-none : (flat : Flat) → 512 < flat .count → flatPairs flat ≡ []
-unfolding flatPairs
-flat-none flat h = rw (lt-leb (flat .count) 512 h)
-
-pub flat-all : (flat : Flat) → flat .count ≤ 512 → flatPairs flat ≡ pairsOf (take (2 * flat .count) (flat .words))
-unfolding flatPairs
-flat-all flat h = rw (le-leb (flat .count) 512 h)
-
--- of a list of pairs, the flat form holds those pairs, or of more than 512 none
-pub flat-of-few : (ps : List Pair) → length ps ≤ 512 → flatPairs (unpacked ps) ≡ ps
-flat-of-few ps h = flat-all (unpacked ps) (omega (arith, count-unpacked ps)) ∙ unpacked-pairs ps h
-
-pub flat-of-many : (ps : List Pair) → 512 < length ps → flatPairs (unpacked ps) ≡ []
-flat-of-many ps h = flat-none (unpacked ps) (omega (arith, count-unpacked ps))
-
-pub length-unpacked : (ps : List Pair) → length (unpacked ps .words) ≡ 1024
-length-unpacked ps = ap length (sym (laid-all ps)) ∙ length-laid ps (held (length ps)) (held-least (length ps) .0) (held-least (length ps) .1)
+-- so it holds those pairs
+pub unpacked-holds : (ps : List Pair) (flat : Flat) → Unpacks ps flat → Lays flat ps
+unpacked-holds ps flat u =
+    record {
+      count-is = u .0;
+      words-are = λ few. ap (take (2 * length ps)) (u .1 few) ∙ take-at (flatten ps) _ (2 * length ps) (length-flatten ps);
+    }

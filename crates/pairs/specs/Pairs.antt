@@ -1,13 +1,18 @@
 -- A cycle in memory. Document 01, "Cycles": "A cycle in memory is a lent list of pairs, gap then size, 1 to 512 of them (the count is the
 -- list's length), each number 0 to 65,535".
--- Every definition over a cycle takes its list of pairs. A flat list of numbers is a way to hold one, and this file says which.
-use Prim.Native.Nat.{ℕ, _-_, _*_}
-use mathlib.Core.Bool.{cond}
+-- Every definition over a cycle takes its list of pairs. A flat list of numbers is a way to hold one.
+use Prim.Native.Nat.{ℕ, _*_, _≤_}
+use mathlib.Core.Path.{_≡_}
+use mathlib.Core.Bool.{Bool, _&&_}
 use mathlib.Core.List.{List, [], _∷_, _++_}
 use lib.Dec.{leb}
-use lib.ListN.{length, take, replicate}
+use lib.ListN.{length, take, drop}
 use Rattle.pairs.specs.declared.Pair.{Pair}
 use Rattle.pairs.specs.declared.Flat.{Flat}
+
+-- "1 to 512 of them"
+abbrev pub countIn : ℕ → Bool
+countIn n = leb 1 n && leb n 512
 
 -- what `getD` gives past the end of a list of pairs
 abbrev pub noPair : Pair
@@ -24,18 +29,11 @@ pairsOf [] = []
 pairsOf (g ∷ []) = []
 pairsOf (g ∷ s ∷ l) = record { gap = g; size = s } ∷ pairsOf l
 
--- the numbers of a list, and zeros up to 1,024 numbers
-unfoldable pub padded : List ℕ → List ℕ
-padded l = l ++ replicate (1024 - length l) 0
+-- a flat form lays a list of pairs flat: it has their count, and of at most 512 the numbers in front of its words
+pub record Lays (flat : Flat) (ps : List Pair) : Type 0 where
+  pub count-is : flat .count ≡ length ps
+  pub words-are : length ps ≤ 512 → take (2 * length ps) (flat .words) ≡ flatten ps
 
--- how many pairs of a list of n are laid flat: at most 512 all of them, above that none
-abbrev pub held : ℕ → ℕ
-held n = cond (leb n 512) n 0
-
--- the flat form of a list of pairs: its length, and the numbers of the pairs that are laid flat
-unfoldable pub unpacked : List Pair → Flat
-unpacked ps = record { words = padded (flatten (take (held (length ps)) ps)); count = length ps }
-
--- the pairs that any flat form holds, whatever its words are past them: of a count above 512, none
-unfoldable pub flatPairs : Flat → List Pair
-flatPairs flat = pairsOf (take (2 * held (flat .count)) (flat .words))
+-- what a list holds once another is stored in front: "Places past the count keep their contents", "Bytes past the file keep theirs"
+abbrev pub laidOver : {A : Type 0} → List A → List A → List A
+laidOver new old = new ++ drop (length new) old

@@ -11,7 +11,7 @@ type Names = BTreeSet<String>;
 
 const BELIEVED: &str = "What a reader must believe";
 /// The page of demands is read like a public contract.
-const DEMANDS: (&str, &str) = ("maxeltu/specs/Demands.antt", "Demands");
+const DEMANDS: (&str, &str) = ("demands/specs/Demands.antt", "Demands");
 
 pub fn all(files: &Files) -> Vec<Check> {
     let project = Project::of(files);

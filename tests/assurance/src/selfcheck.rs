@@ -16,14 +16,14 @@ const SMALL: &[(&str, &str)] = &[
     ("k/must-fail/first.edit", ""),
     ("k/must-fail/second.edit", ""),
     ("main/src/main.rt", "fn main() {\n}\n"),
-    ("maxeltu/specs/Demands.antt", "use Rattle.k.specs.Top.{top}\npub record Demands : Type 0 where\n  pub kept : top 0 ≡ 0\n"),
+    ("demands/specs/Demands.antt", "use Rattle.k.specs.Top.{top}\npub record Demands : Type 0 where\n  pub kept : top 0 ≡ 0\n"),
     (
         PAGE,
         "The program `main`.\n\n| Definition | Theorem | Function | Must-fail edits |\n|---|---|---|---|\n\
          | `k/specs/Top.antt` `top` | `kept` | `k::f` | `k/first`, `second` |\n\n\
          | Where |\n|---|\n| `k`, `Base` |\n\n## What a reader must believe\n\n\
          | Definitions | Lines |\n|---|---|\n| `k/specs/Top.antt` | 2 |\n| `k/specs/Base.antt` | 2 |\n\
-         | `maxeltu/specs/Demands.antt` | 2 |\n| together | 6 |\n\nThe rest: `k/specs/Inner.antt`.\n",
+         | `demands/specs/Demands.antt` | 2 |\n| together | 6 |\n\nThe rest: `k/specs/Inner.antt`.\n",
     ),
 ];
 
@@ -37,14 +37,14 @@ const CHANGES: &[(&str, &str, &str, &str)] = &[
     (PAGE, "| `kept` ", "", "layout of the page"),
     (PAGE, "| `k/specs/Base.antt` | 2 |\n", "", "definitions reached"),
     ("k/src/lib.rt", "mod inner", "pub mod inner", "definitions reached"),
-    ("maxeltu/specs/Demands.antt", "Top.{top}", "Inner.{held as top}", "definitions reached"),
+    ("demands/specs/Demands.antt", "Top.{top}", "Inner.{held as top}", "definitions reached"),
     ("k/specs/Top.antt", "one x\n", "x\n", "files counted"),
     ("k/specs/Top.antt", "some as", "none as", "public contracts"),
     ("k/src/lib.rt", "Top.{top}", "Top", "public contracts"),
     ("k/src/lib.rt", "mod inner", "pub use inner::g;\nmod inner", "public contracts"),
     ("k/src/lib.rt", "mod inner", "pub mod outer", "public contracts"),
     ("k/src/lib.rt", "ensures", "requires", "public contracts"),
-    ("maxeltu/specs/Demands.antt", "Demands", "Demand", "public contracts"),
+    ("demands/specs/Demands.antt", "Demands", "Demand", "public contracts"),
     (PAGE, "The rest: `k/specs/Inner.antt`", "The rest", "other specs files"),
     (PAGE, "The rest: `", "The rest: `k/specs/Top.antt`, `", "other specs files"),
     (PAGE, "Top.antt` | 2", "Top.antt` | 3", "line counts"),

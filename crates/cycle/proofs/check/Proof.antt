@@ -18,7 +18,7 @@ use Rattle.cycle.proofs.check.Tie as tie
 
 -- the function's entry, from behind each test that was passed
 abbrev start₂ : tie.Else2 → tie.Start
-start₂ c = c .before .before .before .before
+start₂ c = c .before .before .before .before .before
 
 abbrev start₃ : tie.Else3 → tie.Start
 start₃ c = start₂ (c .before .before)
@@ -31,10 +31,10 @@ start₅ c = start₄ (c .before .before)
 
 -- what each of them says
 accepted : (c : tie.Else2) → IsAccepted (start₂ c .args .spec)
-accepted c = sym (c .before .before .spec-number .ensures) ∙ c .before .if1 .left
+accepted c = sym (c .before .before .before .spec-number .ensures) ∙ c .before .before .if1 .left
 
 counted : (c : tie.Else2) → between 1 512 (length (start₂ c .args .words .now) / 2) ≡ true
-counted c = not-false _ (c .if2 .left)
+counted c = sym (c .before .count-in .ensures) ∙ not-false _ (c .if2 .left)
 
 count : (c : tie.Else2) → countAllowed (pairsOf (start₂ c .args .words .now)) ≡ true
 count c = sym (count-flat (start₂ c .args .words .now)) ∙ counted c
@@ -59,8 +59,11 @@ returns c = c .before .spec-number .ensures ∙ gets-refused _ _ (λ e. c .if1 .
 
 returns-2 : tie.Need-returns-2
 returns-2 c =
-    gets-12 _ _ (sym (c .before .before .spec-number .ensures) ∙ c .before .if1 .left)
-    (sym (count-flat (c .before .before .before .before .args .words .now)) ∙ not-true _ (c .if2 .taken))
+    gets-12 _ _ (sym (c .before .before .before .spec-number .ensures) ∙ c .before .before .if1 .left)
+    (sym (count-flat (c .before .before .before .before .before .args .words .now)) ∙ sym (c .before .count-in .ensures) ∙ not-true _ (c .if2 .taken))
+
+count-in-requires : tie.Need-count-in-requires
+count-in-requires c κs = search needs
 
 fields-allowed-requires : tie.Need-fields-allowed-requires
 fields-allowed-requires c κs = (between-iff _ _ _ .0 (counted c) .1, search needs)
@@ -114,6 +117,7 @@ check-spec =
     (tie.spec
     spec-number-requires
     returns
+    count-in-requires
     returns-2
     fields-allowed-requires
     returns-3

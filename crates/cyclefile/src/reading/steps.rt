@@ -1,14 +1,11 @@
-// One pair of a cycle file, with plain numbers for the pair before. Judging, filling and reading in one pass all go by `step_at`.
-use super::bytes_taken;
-use super::has_gap;
-use super::has_size;
-use super::number_at;
+// One pair of a cycle file, with plain numbers for the pair before.
+use crate::field_length;
 use spec::refusal;
 ghost use mathlib.Core.Path.{_≡_};
 ghost use Prim.Native.Nat.{_+_, _≤_};
 ghost use lib.ListN.{length, drop};
-ghost use Rattle.cyclefile.specs.File.{readPair, fieldLength};
-ghost use Rattle.cyclefile.specs.OnePass.{beforeIs, wrongHere, fieldOf, inVain, stoppedBy, stepOf};
+ghost use Rattle.cyclefile.specs.File.{readPair, hasGap, hasSize, fieldLength, bytesTaken};
+ghost use Rattle.cyclefile.specs.InnerPromises.{beforeIs, wrongHere, fieldOf, inVain, stoppedBy, stepOf};
 
 // A field of a pair, and the place behind it.
 struct Field {
@@ -24,6 +21,25 @@ pub(crate) struct Step {
     pub size: u16,
 }
 
+fn has_gap(map: u8) -> bool
+    ensures { λ r. ⌜ r ≡ hasGap map ⌝ }
+{
+    map % 2 == 1
+}
+
+fn has_size(map: u8) -> bool
+    ensures { λ r. ⌜ r ≡ hasSize map ⌝ }
+{
+    map / 2 % 2 == 1
+}
+
+// How many bytes a pair with this map takes: 1, 3 or 5.
+fn bytes_taken(map: u8) -> usize
+    ensures { λ r. ⌜ r ≡ bytesTaken map ⌝ }
+{
+    1 + field_length(has_gap(map)) + field_length(has_size(map))
+}
+
 // A field that stands at `at`, or the one before. One branch gives number and place, so that the next place is
 // known before the bytes are.
 fn take_field(file: &[u8], stands: bool, at: usize, before: u16) -> Field
@@ -32,7 +48,7 @@ fn take_field(file: &[u8], stands: bool, at: usize, before: u16) -> Field
 {
     if stands {
         return Field {
-            number: number_at(file, at),
+            number: spec::two_bytes(file[at], file[at + 1]),
             end: at + 2,
         };
     }

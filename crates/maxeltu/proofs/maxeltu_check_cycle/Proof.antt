@@ -1,8 +1,8 @@
--- `maxeltu_check_cycle` meets its contract: a walk of its MIR, by hand. `unpack` is called on the slice of pairs, and `check_unpacked_file` on
+-- `maxeltu_check_cycle` meets its contract: a walk of its MIR, by hand. `unpack` is called on the slice of pairs (`calls-unpack`), and `check_unpacked_file` on
 -- the specification's bytes and what `unpack` made. All that the proof knows of the two is that each meets its contract.
 -- A shared slice is Copy: what each slice owns is had twice, one goes to the callee, beside its lifetime's token, which comes back, and one is
 -- kept for the exit. Assumes nothing.
-use mathlib.Core.Path.{_≡_, refl, _∙_, ap}
+use mathlib.Core.Path.{_≡_, refl}
 use Prim.Native.Nat.{ℕ}
 use mathlib.Core.List.{List, [], _∷_}
 use lib.ListN.{length}
@@ -38,18 +38,18 @@ use denote.Triple.Walked.{says, Stays, stay-none-slice, walkOf, goes-none-slice,
 use denote.Triple.Clauses.{ensured, lasts}
 use denote.Exit.{yes}
 use Rattle.spec.specs.File.{readSpec}
-use Rattle.pairs.specs.Pairs.{unpacked, flatPairs}
+use Rattle.pairs.specs.Pairs.{Lays}
 use Rattle.pairs.specs.declared.Pair.{Pair}
 use Rattle.pairs.specs.declared.Flat.{Flat}
 use Rattle.pairs.proofs.Pair as P
 use Rattle.pairs.proofs.Flat as F
 use Rattle.pairs.proofs.Flat.Laws as F′
-use Rattle.pairs.proofs.unpack as unpack
+use Rattle.pairs.proofs.Unpacked.{unpacked-holds}
+use Rattle.pairs.proofs.Calls.{Unpack, calls-unpack}
 use Rattle.pairs.proofs.unpack.Symbol as unpack-def
 use Rattle.pairs.proofs.unpack.Symbol.{name as #pairs·unpack}
 use Rattle.pairs.proofs.unpack.Met as unpack-thm
 use Rattle.cycle.specs.Check.{checkFileNumber}
-use Rattle.cycle.proofs.FlatForms.{same-file-number}
 use Rattle.cycle.proofs.check_unpacked_file as check
 use Rattle.cycle.proofs.check_unpacked_file.Symbol as check-def
 use Rattle.cycle.proofs.check_unpacked_file.Symbol.{name as #cycle·check-unpacked-file}
@@ -63,9 +63,6 @@ abbrev stayed : Stays (self.ended .signature .params) (self.ended .kept)
 stayed = (stay-none-slice (0 ∷ []) tt (plain (λ _. u8)) yes, (stay-none-slice (1 ∷ []) tt (plain (λ _. P.the-row)) yes, tt))
 
 module _ {M : Type 1} (𝓤 : URA M) (H : Heap 𝓤) (A : Atoms 𝓤) (mem : Memory → SProp 𝓤) (run : Routine → Fun 𝓤) where
-  abbrev Unpack : Contract 𝓤
-  Unpack = tripleOf 𝓤 H A unpack.signature (unpack.spec 𝓤 H A mem run)
-
   abbrev Check : Contract 𝓤
   Check = tripleOf 𝓤 H A check.signature (check.spec 𝓤 H A mem run)
 
@@ -99,17 +96,7 @@ module _ {M : Type 1} (𝓤 : URA M) (H : Heap 𝓤) (A : Atoms 𝓤) (W : Given
   abbrev Pairs : Fml
   Pairs = ShrSlice (named 1) κ′ P.the-row .own p (pv ∷ [])
 
-  -- what each callee is passed, and of its `ensured` the clause alone
-  abbrev to-unpack : Unpack 𝓤 H A mem run .Ghost
-  to-unpack = (((κ′, tt), (q′, tt), tt, (p, tt), (pv ∷ [], tt)), tt)
-
-  goes-unpack : ent 𝓤 (⋆ 𝓤 H A (‵ (flft κ′ q′) ∷ ‵ Pairs ∷ [])) (Unpack 𝓤 H A mem run .pre to-unpack)
-  goes-unpack =
-      qed W (‵ (flft κ′ q′) ∷ ‵ Pairs ∷ []) ∵ nothing ! $ move ! (2 ∷ 0 ∷ []) $ fjoin ! $ nothing ! $ move ! (2 ∷ 0 ∷ []) $ join ! $ join ! $ frame ! $ done !
-
-  unpack-said : (f : Flat) → ent 𝓤 (ensured 𝓤 H A unpack.ended (unpack.clauses 𝓤 H A mem run) (κ′, tt) (p, tt) tt f) (fact 𝓤 (f ≡ unpacked ps))
-  unpack-said f = exE 𝓤 _ (λ ws. snd∗ 𝓤 (sem 𝓤 H A (lasts unpack.ended (κ′, tt) (p, tt) ws)) (fact 𝓤 (f ≡ unpacked ps)))
-
+  -- what `check_unpacked_file` is passed, and of its `ensured` the clause alone
   abbrev to-check : Flat → Val → Check 𝓤 H A mem run .Ghost
   to-check f v = (((κ, tt), (q, tt), tt, (s, (f, tt)), (sv ∷ [], (v ∷ [], tt))), tt)
 
@@ -117,9 +104,9 @@ module _ {M : Type 1} (𝓤 : URA M) (H : Heap 𝓤) (A : Atoms 𝓤) (W : Given
   goes-check f v =
       qed W (‵ (F.the-row .own f (v ∷ [])) ∷ ‵ (flft κ q) ∷ ‵ Bytes ∷ []) ∵ nothing ! $ move ! (1 ∷ 0 ∷ []) $ fjoin ! $ move ! (2 ∷ 0 ∷ []) $ fjoin ! $ nothing ! $ move ! (2 ∷ 0 ∷ []) $ join ! $ join ! $ frame ! $ done !
 
-  -- the number of the pairs of the flat form
+  -- the number of every list that the flat form holds
   abbrev Numbered : Flat → ℕ → Type 0
-  Numbered f r = r ≡ checkFileNumber (readSpec bs) (flatPairs f)
+  Numbered f r = (qs : List Pair) → Lays f qs → r ≡ checkFileNumber (readSpec bs) qs
 
   check-said : (f : Flat) (r : ℕ) → ent 𝓤 (ensured 𝓤 H A check.ended (check.clauses 𝓤 H A mem run) (κ, tt) (s, (f, tt)) tt r) (fact 𝓤 (Numbered f r))
   check-said f r = exE 𝓤 _ (λ ws. snd∗ 𝓤 (sem 𝓤 H A (lasts check.ended (κ, tt) (s, (f, tt)) ws)) (fact 𝓤 (Numbered f r)))
@@ -143,11 +130,7 @@ module _ {M : Type 1} (𝓤 : URA M) (H : Heap 𝓤) (A : Atoms 𝓤) (W : Given
         move ! (2 ∷ []) $ fsplit ! $ use1 W (‵ Pairs ⊛ ‵ Pairs) (shr-slice-copy 𝓤 H A W (named 1) κ′ P.the-row .twice p (pv ∷ [])) $ split ! $
         move ! (13 ∷ []) $ split ! $ move ! (1 ∷ []) $ split ! $
         -- [κ′'s token; true; κ's token; what the pairs own; the same; true; what the bytes own; the same; _3 at 8; …; _2; …; _1; …; room for _0; …]
-        move ! (0 ∷ 3 ∷ []) $ use2 W (raw (Unpack 𝓤 H A mem run .pre to-unpack)) goes-unpack $
-        calls-at ! fm (Unpack 𝓤 H A mem run) known-unpack to-unpack (and-then ! (load ! (from ! (stop !)) (look ! 9 refl)) (no-more !)) (λ v.
-        use1 W (later (some (λ (f : Flat). ((‵ (flft κ′ q′) ⊛ ‵ ftrue) ⊛ ‵ (F.the-row .own f (v ∷ []))) ⊛ raw (ensured 𝓤 H A unpack.ended (unpack.clauses 𝓤 H A mem run) (κ′, tt) (p, tt) tt f)))) (id⊢ 𝓤 _) $ await ! tt $ pick ! (λ f.
-        split ! $ move ! (1 ∷ []) $ use1 W (raw (fact 𝓤 (f ≡ unpacked ps))) (unpack-said f) $ heard ! (f ≡ unpacked ps) (λ e. split ! $ move ! (1 ∷ []) $
-        peeks ! F.the-row (Is F.the-row) (shows 𝓤 H A F.the-row) f (v ∷ []) (λ is.
+        move ! (0 ∷ 3 ∷ []) $ calls-unpack 𝓤 H A W mem run κ′ q′ p fm known-unpack (and-then ! (load ! (from ! (stop !)) (look ! 9 refl)) (no-more !)) (λ v f said is.
         -- [what f owns; κ′'s token; true; κ's token; what the pairs own; true; what the bytes own; the same; _3 at 8; …; _2; …; _1; …; room for _0; …]
         land ! (from ! (stop !)) (init ! 8 refl (LL.lawful F.the-type F′.the-laws 𝓤 H A W .typed f (v ∷ []) is .0)) $
         move ! (0 ∷ 3 ∷ 6 ∷ []) $ use3 W (raw (Check 𝓤 H A mem run .pre (to-check f v))) (goes-check f v) $
@@ -160,7 +143,7 @@ module _ {M : Type 1} (𝓤 : URA M) (H : Heap 𝓤) (A : Atoms 𝓤) (W : Given
         land ! (from ! (stop !)) (init ! 13 refl (uint-lawful 𝓤 H A W w32 .typed r _ is′ .0)) $
         returns ! (look ! 13 refl) $ forget ! 7 refl $ forget ! 9 refl $ forget ! 11 refl $ forget ! 13 refl $
         move ! (13 ∷ 14 ∷ []) $ free1 ! $ move ! (11 ∷ 12 ∷ []) $ free1 ! $ move ! (9 ∷ 10 ∷ []) $ free1 ! $ move ! (7 ∷ 8 ∷ []) $ free1 ! $ free0 ! $
-        keep ! (0 ∷ 1 ∷ 2 ∷ 4 ∷ 6 ∷ []) $ by ! (exits r v′ (numbered ∙ ap (λ (g : Flat). checkFileNumber (readSpec bs) (flatPairs g)) e ∙ same-file-number (readSpec bs) ps))))))))))))))
+        keep ! (0 ∷ 1 ∷ 2 ∷ 4 ∷ 6 ∷ []) $ by ! (exits r v′ (numbered ps (unpacked-holds ps f said))))))))))))
 
 module _ {M : Type 1} (𝓤 : URA M) (H : Heap 𝓤) (A : Atoms 𝓤) (W : Given 𝓤 H A) (mem : Memory → SProp 𝓤) (run : Routine → Fun 𝓤) (𝓣 : Tables 𝓤 H) (known-unpack : Triple 𝓤 (𝓣 .C #pairs·unpack) (Unpack 𝓤 H A mem run)) (known-check : Triple 𝓤 (𝓣 .C #cycle·check-unpacked-file) (Check 𝓤 H A mem run)) where
   walks : Walks 𝓤 H A self.ended stayed (WpFn 𝓤 H (𝓣 .C) (𝓣 .Λ) code.function) (self.clauses 𝓤 H A mem run)

@@ -37,18 +37,18 @@ use denote.Triple.Table.{entered, cited}
 use denote.Triple.Walked.{says, Stays, stay-none-slice, gave-slice, gave-ref, walkOf, goes-none-slice, goes-gave-slice, goes-gave-ref, Walks, ends-at, walked, walk-meets}
 use denote.Triple.Clauses.{ensured, lasts}
 use denote.Exit.{yes}
-use Rattle.pairs.specs.Pairs.{unpacked, flatPairs}
+use Rattle.pairs.specs.Pairs.{Lays}
 use Rattle.pairs.specs.declared.Pair.{Pair}
 use Rattle.pairs.specs.declared.Flat.{Flat}
 use Rattle.pairs.proofs.Pair as P
 use Rattle.pairs.proofs.Flat as F
 use Rattle.pairs.proofs.Flat.Laws as F′
-use Rattle.pairs.proofs.unpack as unpack
+use Rattle.pairs.proofs.Unpacked.{unpacked-holds}
+use Rattle.pairs.proofs.Calls.{Unpack, calls-unpack}
 use Rattle.pairs.proofs.unpack.Symbol as unpack-def
 use Rattle.pairs.proofs.unpack.Symbol.{name as #pairs·unpack}
 use Rattle.pairs.proofs.unpack.Met as unpack-thm
 use Rattle.cyclefile.specs.File.{Writes}
-use Rattle.cyclefile.proofs.PairForms.{flat-writes-same}
 use Rattle.cyclefile.proofs.writing.write_unpacked as write
 use Rattle.cyclefile.proofs.writing.write_unpacked.Symbol as write-def
 use Rattle.cyclefile.proofs.writing.write_unpacked.Symbol.{name as #cyclefile·write-unpacked}
@@ -61,11 +61,8 @@ use Rattle.maxeltu.proofs.maxeltu_write_cycle.Code as code
 abbrev stayed : Stays (self.ended .signature .params) (self.ended .kept)
 stayed = (stay-none-slice (0 ∷ []) tt (plain (λ _. P.the-row)) yes, (gave-slice (1 ∷ []) tt (plain (λ _. u8)), (gave-ref (2 ∷ []) tt (plain (λ _. u32)), tt)))
 
--- the contracts that the proof cites
+-- the contract that the proof cites, beside that of `unpack`
 module _ {M : Type 1} (𝓤 : URA M) (H : Heap 𝓤) (A : Atoms 𝓤) (mem : Memory → SProp 𝓤) (run : Routine → Fun 𝓤) where
-  abbrev Unpack : Contract 𝓤
-  Unpack = tripleOf 𝓤 H A unpack.signature (unpack.spec 𝓤 H A mem run)
-
   abbrev Write : Contract 𝓤
   Write = tripleOf 𝓤 H A write.signature (write.spec 𝓤 H A mem run)
 
@@ -103,16 +100,7 @@ module _ {M : Type 1} (𝓤 : URA M) (H : Heap 𝓤) (A : Atoms 𝓤) (W : Given
   abbrev Told : Fml
   Told = MutRef (named 2) κ₂ u32 .own w (vptr b₂ o₂ ∷ [])
 
-  -- what each callee is passed, and of the first one's `ensured` the clause alone
-  abbrev to-unpack : Unpack 𝓤 H A mem run .Ghost
-  to-unpack = (((κ, tt), (q, tt), tt, (s, tt), (sv ∷ [], tt)), tt)
-
-  goes-unpack : ent 𝓤 (⋆ 𝓤 H A (‵ (flft κ q) ∷ ‵ Sl ∷ [])) (Unpack 𝓤 H A mem run .pre to-unpack)
-  goes-unpack = qed W (‵ (flft κ q) ∷ ‵ Sl ∷ []) ∵ nothing ! $ move ! (2 ∷ 0 ∷ []) $ fjoin ! $ nothing ! $ move ! (2 ∷ 0 ∷ []) $ join ! $ join ! $ frame ! $ done !
-
-  unpack-said : (r : Flat) → ent 𝓤 (ensured 𝓤 H A unpack.ended (unpack.clauses 𝓤 H A mem run) (κ, tt) (s, tt) tt r) (fact 𝓤 (r ≡ unpacked ps))
-  unpack-said r = exE 𝓤 _ (λ ws. snd∗ 𝓤 (sem 𝓤 H A (lasts unpack.ended (κ, tt) (s, tt) ws)) (fact 𝓤 (r ≡ unpacked ps)))
-
+  -- what `write_unpacked` is passed
   abbrev to-write : Flat → Val → Write 𝓤 H A mem run .Ghost
   to-write f v = (((κ₁, (κ₂, tt)), (q₁, (q₂, tt)), tt, (f, (d, (w, tt))), (v ∷ [], (dv ∷ [], (vptr b₂ o₂ ∷ [], tt)))), tt)
 
@@ -121,7 +109,7 @@ module _ {M : Type 1} (𝓤 : URA M) (H : Heap 𝓤) (A : Atoms 𝓤) (W : Given
 
   -- what `write_unpacked` ensures, at the last values of the bytes and of the length
   abbrev Wrote : Flat → ℕ → List ℕ → ℕ → Type 0
-  Wrote f r zs m = Writes (flatPairs f) ys n r zs m
+  Wrote f r zs m = (qs : List Pair) → Lays f qs → Writes qs ys n r zs m
 
   exits : (r : ℕ) (v : Val) (zs : List ℕ) (m : ℕ) → Writes ps ys n r zs m → length zs ≡ length ys
       → ent 𝓤 (⋆ 𝓤 H A (‵ (u32 .own r (v ∷ [])) ∷ (‵ (flft κ₁ q₁) ⊛ ‵ (flft κ₂ q₂) ⊛ ‵ ftrue) ∷ ‵ (finally u8 γ₁ zs) ∷ ‵ (fres γ₂ (u32 .coded .code m)) ∷ (‵ (flft κ q) ⊛ ‵ ftrue) ∷ ‵ Sl ∷ [])) (Post v)
@@ -141,11 +129,7 @@ module _ {M : Type 1} (𝓤 : URA M) (H : Heap 𝓤) (A : Atoms 𝓤) (W : Given
         move ! (17 ∷ []) $ fsplit ! $ use1 W (‵ Sl ⊛ ‵ Sl) (shr-slice-copy 𝓤 H A W (named 0) κ P.the-row .twice s (sv ∷ [])) $ split ! $
         move ! (19 ∷ []) $ split ! $ move ! (1 ∷ []) $ split ! $ move ! (1 ∷ []) $ split ! $
         -- [written's token; true; file's token; pairs' token; what pairs owns; the same; what file and written own; _7 at 7; …]
-        move ! (3 ∷ 4 ∷ []) $ use2 W (raw (Unpack 𝓤 H A mem run .pre to-unpack)) goes-unpack $
-        calls-at ! fm (Unpack 𝓤 H A mem run) known-unpack to-unpack (and-then ! (load ! (from ! (stop !)) (look ! 18 refl)) (no-more !)) (λ v.
-        use1 W (later (some (λ (f : Flat). ((‵ (flft κ q) ⊛ ‵ ftrue) ⊛ ‵ (F.the-row .own f (v ∷ []))) ⊛ raw (ensured 𝓤 H A unpack.ended (unpack.clauses 𝓤 H A mem run) (κ, tt) (s, tt) tt f)))) (id⊢ 𝓤 _) $ await ! tt $ pick ! (λ f.
-        split ! $ move ! (1 ∷ []) $ use1 W (raw (fact 𝓤 (f ≡ unpacked ps))) (unpack-said f) $ heard ! (f ≡ unpacked ps) (λ e. split ! $ move ! (1 ∷ []) $
-        peeks ! F.the-row (Is F.the-row) (shows 𝓤 H A F.the-row) f (v ∷ []) (λ is.
+        move ! (3 ∷ 4 ∷ []) $ calls-unpack 𝓤 H A W mem run κ q s fm known-unpack (and-then ! (load ! (from ! (stop !)) (look ! 18 refl)) (no-more !)) (λ v f flat is.
         -- [what f owns; pairs' token; written's token; true; file's token; what pairs owns; what file and written own; _7 at 7; …]
         land ! (from ! (stop !)) (init ! 13 refl (LL.lawful F.the-type F′.the-laws 𝓤 H A W .typed f (v ∷ []) is .0)) $
         assigns ! (addr ! (from ! (fld ! refl (hop ! (look-in ! 17 (sub ! 0 refl (whole !))) (stop !))))) (from ! (stop !)) (init ! 11 refl (tt, tt)) $
@@ -164,7 +148,7 @@ module _ {M : Type 1} (𝓤 : URA M) (H : Heap 𝓤) (A : Atoms 𝓤) (W : Given
         land ! (from ! (stop !)) (init ! 22 refl (uint-lawful 𝓤 H A W w32 .typed r _ is′ .0)) $
         returns ! (look ! 22 refl) $ forget ! 8 refl $ forget ! 10 refl $ forget ! 12 refl $ forget ! 14 refl $ forget ! 16 refl $ forget ! 18 refl $ forget ! 20 refl $ forget ! 22 refl $
         move ! (22 ∷ 23 ∷ []) $ free1 ! $ move ! (20 ∷ 21 ∷ []) $ free1 ! $ move ! (18 ∷ 19 ∷ []) $ free1 ! $ move ! (16 ∷ 17 ∷ []) $ free1 ! $ move ! (14 ∷ 15 ∷ []) $ free1 ! $ move ! (12 ∷ 13 ∷ []) $ free1 ! $ move ! (10 ∷ 11 ∷ []) $ free1 ! $ move ! (8 ∷ 9 ∷ []) $ free1 ! $ free0 ! $
-        keep ! (0 ∷ 1 ∷ 4 ∷ 2 ∷ 6 ∷ 7 ∷ []) $ by ! (exits r v′ (ls .1 .0) (ls .1 .1 .0) (flat-writes-same ps ys n r (ls .1 .0) (ls .1 .1 .0) (rw e at said)) l)))))))))))))))))))
+        keep ! (0 ∷ 1 ∷ 4 ∷ 2 ∷ 6 ∷ 7 ∷ []) $ by ! (exits r v′ (ls .1 .0) (ls .1 .1 .0) (said ps (unpacked-holds ps f flat)) l))))))))))))))))
 
 module _ {M : Type 1} (𝓤 : URA M) (H : Heap 𝓤) (A : Atoms 𝓤) (W : Given 𝓤 H A) (mem : Memory → SProp 𝓤) (run : Routine → Fun 𝓤) (𝓣 : Tables 𝓤 H) (known-unpack : Triple 𝓤 (𝓣 .C #pairs·unpack) (Unpack 𝓤 H A mem run)) (known-write : Triple 𝓤 (𝓣 .C #cyclefile·write-unpacked) (Write 𝓤 H A mem run)) where
   walks : Walks 𝓤 H A self.ended stayed (WpFn 𝓤 H (𝓣 .C) (𝓣 .Λ) code.function) (self.clauses 𝓤 H A mem run)

@@ -41,7 +41,8 @@ use denote.Slice.{sliceTy, sliceVal, ShrSlice, Room, heres, codedHoleys, slice-v
 use denote.Index.{row, place-is, elem-out, elem-back, elem-put, looks-slice, shuts-slice}
 use denote.Array.{Array, arrayVal, array-lawful, array-makes}
 use Rattle.pairs.proofs.LocalArray.{repeated, arr, out-of, into}
-use Rattle.pairs.proofs.Unpacked.{zeros-is, laid, length-laid, laid-next, laidFlat, laid-done, held-least}
+use Rattle.pairs.proofs.Counts.{fits, fits-least}
+use Rattle.pairs.proofs.Unpacked.{zeros-is, laid, length-laid, laid-next, laidFlat, laid-done}
 use denote.Signature.{plain}
 use denote.Steps.{owned, peeks, heard, nothing, only}
 use denote.Struct.Laws as LL
@@ -53,7 +54,7 @@ use denote.Triple.Table.{entered, cited}
 use denote.Triple.Walked.{says, Stays, stay-none-slice, walkOf, goes-none-slice, Walks, ends-at, walked, walk-meets}
 use denote.Triple.Clauses.{ensured, lasts}
 use denote.Exit.{yes}
-use Rattle.pairs.specs.Pairs.{noPair, held}
+use Rattle.pairs.specs.Pairs.{noPair}
 use Rattle.pairs.specs.declared.Pair.{Pair}
 use Rattle.pairs.specs.declared.Flat.{Flat}
 use Rattle.pairs.proofs.Pair as P
@@ -85,8 +86,8 @@ module _ {M : Type 1} (𝓤 : URA M) (H : Heap 𝓤) (A : Atoms 𝓤) (mem′ : 
   abbrev Fitting : Contract 𝓤
   Fitting = tripleOf 𝓤 H A fitting.signature (fitting.spec 𝓤 H A mem′ run)
 
-  fitting-said : (n r : ℕ) → ent 𝓤 (ensured 𝓤 H A fitting.ended (fitting.clauses 𝓤 H A mem′ run) tt (n, tt) tt r) (fact 𝓤 (r ≡ held n))
-  fitting-said n r = exE 𝓤 _ (λ ws. snd∗ 𝓤 (sem 𝓤 H A (lasts fitting.ended tt (n, tt) ws)) (fact 𝓤 (r ≡ held n)))
+  fitting-said : (n r : ℕ) → ent 𝓤 (ensured 𝓤 H A fitting.ended (fitting.clauses 𝓤 H A mem′ run) tt (n, (512, tt)) tt r) (fact 𝓤 (r ≡ fits n 512))
+  fitting-said n r = exE 𝓤 _ (λ ws. snd∗ 𝓤 (sem 𝓤 H A (lasts fitting.ended tt (n, (512, tt)) ws)) (fact 𝓤 (r ≡ fits n 512)))
 
 module _ {M : Type 1} (𝓤 : URA M) (H : Heap 𝓤) (A : Atoms 𝓤) (W : Given 𝓤 H A) (at-mem : Memory → SProp 𝓤) (run : Routine → Fun 𝓤) (κ : Lft) (q : Share) (b o : ℕ) (γ : GName) (ps : List Pair) (room : Room P.the-row (length ps)) where
   abbrev n : ℕ
@@ -94,10 +95,10 @@ module _ {M : Type 1} (𝓤 : URA M) (H : Heap 𝓤) (A : Atoms 𝓤) (W : Given
 
   -- how many pairs are put
   abbrev m : ℕ
-  m = held n
+  m = fits n 512
 
-  limits : (m ≤ n) × (m ≤ 512)
-  limits = held-least n
+  limits : (m ≤ n) × (m ≤ 512) × (m ≤ 512)
+  limits = fits-least n 512
 
   abbrev x : RefT (List Pair) × Unit {0}
   x = (record { ptr = (b, o); name = γ; now = ps }, tt)
@@ -132,10 +133,12 @@ module _ {M : Type 1} (𝓤 : URA M) (H : Heap 𝓤) (A : Atoms 𝓤) (W : Given
 
   -- what the callee is passed
   abbrev to-fitting : Fitting 𝓤 H A at-mem run .Ghost
-  to-fitting = ((tt, tt, tt, (n, tt), (vint w64 n ∷ [], tt)), tt)
+  to-fitting = ((tt, tt, tt, (n, (512, tt)), (vint w64 n ∷ [], (vint w64 512 ∷ [], tt))), tt)
 
   goes-fitting : ent 𝓤 (sem 𝓤 H A ftrue) (Fitting 𝓤 H A at-mem run .pre to-fitting)
-  goes-fitting = qed W (‵ ftrue ∷ []) ∵ owned ! usize (Is usize) (uint-makes 𝓤 H A W w64) n _ (refl, room .0) $ fjoin ! $ nothing ! $ join ! $ frame ! $ done !
+  goes-fitting =
+      qed W (‵ ftrue ∷ []) ∵ owned ! usize (Is usize) (uint-makes 𝓤 H A W w64) 512 _ (refl, lit< tt) $ fjoin ! $
+      owned ! usize (Is usize) (uint-makes 𝓤 H A W w64) n _ (refl, room .0) $ fjoin ! $ nothing ! $ join ! $ frame ! $ done !
 
   m-fits : m < 2 ^ 64
   m-fits = lt-of-le-of-lt (limits .0) (room .0)
@@ -309,9 +312,9 @@ module _ {M : Type 1} (𝓤 : URA M) (H : Heap 𝓤) (A : Atoms 𝓤) (W : Given
       pass1 ! (init ! 32 refl (tt, (tt, (record { fits = room .0 }, tt)))) $ pass0 ! $
       assigns ! (of-opd ! (load ! (from ! (fld ! refl (stop !))) (look-in ! 32 (sub ! 1 refl (whole !))))) (from ! (stop !)) (init ! 30 refl (tt, record { fits = room .0 })) $
       nothing ! $ use1 W (raw (Fitting 𝓤 H A at-mem run .pre to-fitting)) goes-fitting $
-      calls-at ! (fmOf 𝓤 H (W .laws) 𝓣) (Fitting 𝓤 H A at-mem run) known to-fitting (and-then ! (load ! (from ! (stop !)) (look ! 31 refl)) (no-more !)) (λ v.
-      use1 W (later (some (λ (r : ℕ). (‵ ftrue ⊛ ‵ (usize .own r (v ∷ []))) ⊛ raw (ensured 𝓤 H A fitting.ended (fitting.clauses 𝓤 H A at-mem run) tt (n, tt) tt r)))) (id⊢ 𝓤 _) $ await ! tt $ pick ! (λ r.
-      split ! $ move ! (1 ∷ []) $ use1 W (raw (fact 𝓤 (r ≡ held n))) (fitting-said 𝓤 H A at-mem run n r) $ heard ! (r ≡ held n) (λ e. split ! $ drop ! $
+      calls-at ! (fmOf 𝓤 H (W .laws) 𝓣) (Fitting 𝓤 H A at-mem run) known to-fitting (and-then ! (load ! (from ! (stop !)) (look ! 31 refl)) (and-then ! (lit ! tt) (no-more !))) (λ v.
+      use1 W (later (some (λ (r : ℕ). (‵ ftrue ⊛ ‵ (usize .own r (v ∷ []))) ⊛ raw (ensured 𝓤 H A fitting.ended (fitting.clauses 𝓤 H A at-mem run) tt (n, (512, tt)) tt r)))) (id⊢ 𝓤 _) $ await ! tt $ pick ! (λ r.
+      split ! $ move ! (1 ∷ []) $ use1 W (raw (fact 𝓤 (r ≡ fits n 512))) (fitting-said 𝓤 H A at-mem run n r) $ heard ! (r ≡ fits n 512) (λ e. split ! $ drop ! $
       peeks ! usize (Is usize) (shows 𝓤 H A usize) r (v ∷ []) (λ is.
       land ! (from ! (stop !)) (init ! 29 refl (uint-lawful 𝓤 H A W w64 .typed r _ is .0)) $ drop ! $
       rewrite ! 28 (λ (u : Val). ‵ (fat fullShare (tyInt w64) l₃ 0 u)) (ap only (is .0)) refl $ rewrite ! 28 (λ (k : ℕ). ‵ (fat fullShare (tyInt w64) l₃ 0 (vint w64 k))) e refl $

@@ -10,7 +10,7 @@ use borrow.Author.Needs.{needs}
 use Rattle.pairs.specs.Pairs.{pairsOf, noPair}
 use Rattle.pairs.proofs.FlatLists.{length-pairsOf}
 use Rattle.cyclefile.specs.File.{pairsBytes, cycleBytes}
-use Rattle.cyclefile.specs.Steps.{beforeOf}
+use Rattle.cyclefile.specs.InnerPromises.{beforeOf}
 use Rattle.cyclefile.proofs.StoredBytes.{length-cycleBytes, left-next, left-none, pairBytes-small}
 use Rattle.cyclefile.proofs.writing.file_length.Statement.{statement}
 use Rattle.cyclefile.proofs.writing.file_length.Tie as tie

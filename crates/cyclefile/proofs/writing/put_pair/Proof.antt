@@ -7,7 +7,7 @@ use denote.Ref.{now}
 use lib.ListN.{length, length-set}
 use lib.Seq.{length-sets}
 use Rattle.cyclefile.specs.File.{pairBytes}
-use Rattle.cyclefile.specs.Steps.{beforeOf}
+use Rattle.cyclefile.specs.InnerPromises.{beforeOf}
 use Rattle.cyclefile.proofs.StoredBytes.{length-pairBytes, pair-stored}
 use borrow.Author.Needs.{needs}
 use Rattle.cyclefile.proofs.writing.put_pair.Statement.{statement}

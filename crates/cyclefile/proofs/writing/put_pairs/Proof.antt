@@ -10,7 +10,7 @@ use borrow.Author.Needs.{needs}
 use Rattle.pairs.specs.Pairs.{pairsOf}
 use Rattle.pairs.proofs.FlatLists.{length-pairsOf}
 use Rattle.cyclefile.specs.File.{none, pairsBytes}
-use Rattle.cyclefile.specs.Steps.{beforeOf}
+use Rattle.cyclefile.specs.InnerPromises.{beforeOf}
 use Rattle.cyclefile.proofs.StoredBytes.{length-cycleBytes, left-next, left-none, stored-next}
 use Rattle.cyclefile.proofs.writing.put_pairs.Statement.{statement}
 use Rattle.cyclefile.proofs.writing.put_pairs.Tie as tie

@@ -7,7 +7,7 @@ use denote.Ref.{now}
 use borrow.Author.Tests.{not-true, not-false}
 use Rattle.pairs.specs.Pairs.{pairsOf}
 use Rattle.pairs.proofs.FlatLists.{length-pairsOf}
-use Rattle.cyclefile.proofs.WholeFile.{countIn-true}
+use Rattle.pairs.proofs.Counts.{countIn-true}
 use Rattle.cyclefile.proofs.StoredBytes.{length-cycleBytes, bad-count, few-bytes, stored-whole}
 use borrow.Author.Needs.{needs}
 use Rattle.cyclefile.proofs.writing.write_flat.Statement.{statement}
