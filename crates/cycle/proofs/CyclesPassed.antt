@@ -16,10 +16,11 @@ use Rattle.spec.specs.Limits.{IsAccepted}
 use Rattle.spec.proofs.Facts.{gap-allowed-pos}
 use Rattle.spec.proofs.GoingOn.{went-on}
 use Rattle.pairs.specs.declared.Pair.{Pair}
+use Rattle.pairs.specs.Pairs.{countIn}
 use Rattle.schedule.specs.Schedules.{stretch}
 use Rattle.schedule.specs.Rules.{Obeys}
 use Rattle.cycle.specs.Cycles.{cycleRun, round}
-use Rattle.cycle.specs.Check.{countAllowed, gapsAllowed, sizesAllowed, supplyKept, demandMet, cycleNumber, checkNumber}
+use Rattle.cycle.specs.Check.{gapsAllowed, sizesAllowed, supplyKept, demandMet, cycleNumber, checkNumber}
 use Rattle.cycle.specs.Witnesses.{TooFull, TooThin, GapRefused, SizeRefused, SupplyRefused, DemandRefused}
 use Rattle.cycle.proofs.Runs.{gaps-right, sizes-right, supply-right, demand-right}
 use Rattle.cycle.proofs.Steps.{gets-cycle, gets-0}
@@ -46,7 +47,7 @@ said false b c d e = record { is-0 = no 12 0 (omega arith); is-13 = no 12 13 (om
 
 cycle-said : (spec : Spec) (ps : List Pair) → Said (cycleNumber spec ps) (gapsAllowed spec ps) (sizesAllowed spec ps) (supplyKept (spec .supply) ps) (demandMet (spec .demand) ps)
 unfolding cycleNumber
-cycle-said spec ps = said (countAllowed ps) _ _ _ _
+cycle-said spec ps = said (countIn (length ps)) _ _ _ _
 
 -- a number of 13 or more is the cycle's own: 3 and 4 are the specification's
 cycle-own : (spec : Spec) (ps : List Pair) (n : ℕ) → 13 ≤ n → checkNumber spec ps ≡ n → cycleNumber spec ps ≡ n
@@ -84,7 +85,6 @@ demand-refused spec ps e = too-thin (spec .demand) ps (cycle-said spec ps .is-16
 -- a cycle is passed exactly when its endless run obeys the four rules
 pub passed-obeys : (spec : Spec) (ps : List Pair) → IsAccepted spec → 1 ≤ length ps → length ps ≤ 512
     → (checkNumber spec ps ≡ 0) ↔ Obeys spec (cycleRun ps)
-unfolding countAllowed
 passed-obeys spec ps accepted some few = (
   λ e.
       let t = cycle-said spec ps .is-0 (sym (gets-cycle spec ps accepted) ∙ e) in

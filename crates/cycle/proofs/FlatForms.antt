@@ -9,18 +9,18 @@ use borrow.Author.Tests.{lt-leb}
 use Rattle.spec.specs.declared.Spec.{Spec}
 use Rattle.spec.specs.declared.SpecRead.{SpecRead}
 use Rattle.spec.specs.declared.SpecRead.the-variants.{Accepted, Refused}
-use Rattle.spec.specs.File.{readNumber}
+use Rattle.spec.specs.File.{ifRead}
 use Rattle.pairs.specs.declared.Pair.{Pair}
 use Rattle.pairs.specs.declared.Flat.{Flat}
 use Rattle.pairs.specs.Pairs.{pairsOf, Lays}
 use Rattle.pairs.proofs.Counts.{fits, fits-all, fits-none}
 use Rattle.pairs.proofs.Packed.{held-pairs}
 use Rattle.numbers.proofs.Cases.{lt-cases}
-use Rattle.cycle.specs.Check.{countAllowed, cycleNumber, checkNumber, checkFileNumber}
+use Rattle.cycle.specs.Check.{cycleNumber, checkNumber, checkFileNumber}
 
 -- too many pairs get the number of none
 too-many : (spec : Spec) (ps : List Pair) → 512 < length ps → checkNumber spec [] ≡ checkNumber spec ps
-unfolding checkNumber cycleNumber countAllowed
+unfolding checkNumber cycleNumber
 too-many spec ps h = rw (lt-leb (length ps) 512 h, and-false)
 
 -- the pairs in front of the words, as many as are laid flat, get the list's number
@@ -33,7 +33,7 @@ same-number spec flat ps holds n e =
     (lt-cases 512 (length ps))
 
 -- a specification's file that is refused, that is accepted
-pub read-refused : {read : SpecRead} {n : ℕ} (ps : List Pair) → read ≡ Refused n → readNumber read ≡ checkFileNumber read ps
+pub read-refused : {read : SpecRead} {n : ℕ} (ps : List Pair) → read ≡ Refused n → ifRead read (λ s. 0) (λ m. m) ≡ checkFileNumber read ps
 unfolding checkFileNumber
 read-refused ps e = rw e
 

@@ -10,15 +10,14 @@ use Rattle.spec.specs.Limits.{between, specNumber, IsAccepted}
 use Rattle.spec.proofs.Facts.{between-iff, gap-allowed-pos}
 use Rattle.spec.proofs.GoingOn.{goes-on, stops}
 use Rattle.pairs.specs.declared.Pair.{Pair}
-use Rattle.pairs.specs.Pairs.{pairsOf}
+use Rattle.pairs.specs.Pairs.{countIn, pairsOf}
 use Rattle.pairs.proofs.FlatLists.{length-pairsOf}
-use Rattle.cycle.specs.Check.{countAllowed, gapsAllowed, sizesAllowed, supplyKept, demandMet, cycleNumber, checkNumber}
+use Rattle.cycle.specs.Check.{gapsAllowed, sizesAllowed, supplyKept, demandMet, cycleNumber, checkNumber}
 use Rattle.cycle.specs.Windows.{fieldsAllowed, runOf, Walkable}
 use Rattle.cycle.proofs.Runs.{gaps-right}
 
-pub count-flat : (l : List ℕ) → between 1 512 (length l / 2) ≡ countAllowed (pairsOf l)
-unfolding countAllowed
-count-flat l = ap (between 1 512) (sym (length-pairsOf l))
+pub count-flat : (l : List ℕ) → countIn (length l / 2) ≡ countIn (length (pairsOf l))
+count-flat l = ap countIn (sym (length-pairsOf l))
 
 -- the two fields of the walk
 pub gaps-field : (spec : Spec) (ps : List Pair) → fieldsAllowed spec 0 ps ≡ gapsAllowed spec ps
@@ -39,11 +38,11 @@ module _ (spec : Spec) (ps : List Pair) where
     unfolding checkNumber
     gets-cycle = goes-on spec (cycleNumber spec ps) (λ n. n) accepted
 
-    pub gets-12 : countAllowed ps ≡ false → 12 ≡ checkNumber spec ps
+    pub gets-12 : countIn (length ps) ≡ false → 12 ≡ checkNumber spec ps
     unfolding cycleNumber
     gets-12 h = rw (gets-cycle, h)
 
-    module _ (count : countAllowed ps ≡ true) where
+    module _ (count : countIn (length ps) ≡ true) where
       pub gets-13 : gapsAllowed spec ps ≡ false → 13 ≡ checkNumber spec ps
       unfolding cycleNumber
       gets-13 h = rw (gets-cycle, count, h)

@@ -18,9 +18,6 @@ use Rattle.pairs.specs.Pairs.{countIn}
 use Rattle.schedule.specs.Schedules.{stretch}
 use Rattle.cycle.specs.Cycles.{pairGap, pairSize, cycleRun, round}
 
-unfoldable pub countAllowed : List Pair → Bool
-countAllowed ps = countIn (length ps)
-
 unfoldable pub gapsAllowed : Spec → List Pair → Bool
 gapsAllowed spec ps = all (λ j. gapAllowed spec (pairGap ps j)) (length ps)
 
@@ -40,7 +37,7 @@ demandMet (Present l p) ps = all (λ a. leb l (stretch (cycleRun ps) a p)) (roun
 -- the first of 12 to 16 that applies, or 0; after 3 and 4; after 1 to 4, given a specification's file
 unfoldable pub cycleNumber : Spec → List Pair → ℕ
 cycleNumber spec ps =
-    cond (countAllowed ps)
+    cond (countIn (length ps))
     (cond (gapsAllowed spec ps)
     (cond (sizesAllowed spec ps)
     (cond (supplyKept (spec .supply) ps)

@@ -4,12 +4,12 @@ use mathlib.Core.Path.{_≡_}
 use Rattle.spec.specs.declared.Spec.{Spec}
 use Rattle.spec.specs.declared.SpecRead.{SpecRead}
 use Rattle.spec.specs.declared.SpecRead.the-variants.{Accepted, Refused as NotRead}
-use Rattle.spec.specs.File.{readNumber, ifRead}
+use Rattle.spec.specs.File.{ifRead}
 use Rattle.answers.specs.Answers.{Answer, refusal}
 
 -- the bytes were read to x, which is a refusal, or a specification
 module _ {x y : SpecRead} (is : x ≡ y) (call : Spec → Answer) where
-  pub not-read : {m n : ℕ} → x ≡ NotRead m → n ≡ readNumber x → refusal n ≡ ifRead y call refusal
+  pub not-read : {m n : ℕ} → x ≡ NotRead m → n ≡ ifRead x (λ s. 0) (λ k. k) → refusal n ≡ ifRead y call refusal
   not-read e k = rw (← is, k, e)
 
   pub was-read : {s : Spec} → x ≡ Accepted s → call s ≡ ifRead y call refusal

@@ -5,7 +5,7 @@ use mathlib.Core.List.{List}
 use Rattle.spec.specs.declared.Spec.{Spec}
 use Rattle.spec.specs.declared.SpecRead.{SpecRead}
 use Rattle.spec.specs.declared.SpecRead.the-variants.{Accepted, Refused as NotRead}
-use Rattle.spec.specs.File.{readSpec, readNumber}
+use Rattle.spec.specs.File.{readSpec, ifRead}
 use Rattle.pairs.specs.declared.Pair.{Pair}
 use Rattle.pairs.specs.Pairs.{pairsOf, flatten}
 use Rattle.pairs.proofs.FlatLists.{pairsOf-flatten}
@@ -14,7 +14,7 @@ use Rattle.cyclefile.specs.File.{pairs, refused, readCycle}
 use Rattle.maxeltu.specs.Verdict.{verdictRead, verdictOf}
 
 module _ (bytes file : List ℕ) {x : SpecRead} (is : x ≡ readSpec bytes) where
-  pub spec-refused : {m n : ℕ} → x ≡ NotRead m → n ≡ readNumber x → n ≡ verdictOf bytes file
+  pub spec-refused : {m n : ℕ} → x ≡ NotRead m → n ≡ ifRead x (λ s. 0) (λ k. k) → n ≡ verdictOf bytes file
   unfolding verdictOf verdictRead
   spec-refused e k = rw (← is, k, e)
 

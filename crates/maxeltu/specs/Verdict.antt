@@ -2,17 +2,15 @@
 -- met, the specification's first."
 use Prim.Native.Nat.{ℕ}
 use mathlib.Core.List.{List}
-use Rattle.spec.specs.declared.SpecRead.{SpecRead}
-use Rattle.spec.specs.declared.SpecRead.the-variants.{Accepted, Refused as NotRead}
-use Rattle.spec.specs.File.{readSpec}
+use Rattle.spec.specs.declared.Spec.{Spec}
+use Rattle.spec.specs.File.{readSpec, ifRead}
 use Rattle.cycle.specs.Check.{checkNumber}
 use Rattle.cyclefile.specs.File.{CycleRead, pairs, refused, readCycle}
 
--- of what the two files are read to
-unfoldable pub verdictRead : SpecRead → CycleRead → ℕ
-verdictRead (NotRead n) cycle = n
-verdictRead (Accepted s) (refused n) = n
-verdictRead (Accepted s) (pairs ps) = checkNumber s ps
+-- the number of a cycle that is read so
+unfoldable pub verdictRead : Spec → CycleRead → ℕ
+verdictRead s (refused n) = n
+verdictRead s (pairs ps) = checkNumber s ps
 
 unfoldable pub verdictOf : List ℕ → List ℕ → ℕ
-verdictOf spec cycle = verdictRead (readSpec spec) (readCycle 512 cycle)
+verdictOf spec cycle = ifRead (readSpec spec) (λ s. verdictRead s (readCycle 512 cycle)) (λ n. n)

@@ -33,7 +33,7 @@ use Rattle.even.specs.Even.{evenPlan, planOr10, evenPlanAt, evenGap, largest, f
 use Rattle.answers.specs.Answers.{Answer, consistencyAnswer, scheduledAnswer, testedAnswer, evenAnswer}
 use Rattle.pairs.specs.declared.Pair.{Pair}
 use Rattle.cycle.specs.Cycles.{pairGap, pairSize, cycleRun, round}
-use Rattle.cycle.specs.Check.{checkNumber, cycleNumber, countAllowed, gapsAllowed, sizesAllowed, supplyKept, demandMet}
+use Rattle.cycle.specs.Check.{checkNumber, cycleNumber, gapsAllowed, sizesAllowed, supplyKept, demandMet}
 
 -- what the document says of a specification; a report is its minute and its size
 pub data Claim : Type 0 where
@@ -185,5 +185,5 @@ samplesHold (x ∷ xs) = claimsHold (x .spec) (x .claims) && samplesHold xs
 
 -- Every value of the table is what the definitions compute.
 pub samples-hold : samplesHold samples ≡ true
-unfolding samplesHold samples sample cycle claimsHold claimHolds same answerIs reportIs reportsAre scheduleReports wellFormed even evenReportsAre sameRate sameRange readTo specNumber limits order rateLimits rangeLimits rangeOrder sizeAllowed gapAllowed gapTop readSpec ifAccepted started sum minute heldFrom stretch proper run kindRun wellSize wellGap evenFirst evenSize reportOf consistencyOf conditionsOf boundsFitRates sizeFitsBudget gapFitsDemand demandFitsDuration fewestReportsFitBudget enoughReportsForDemand supplyCoversDemand whereRate whereRange ceil scheduleFor bothRates ratesFrom scheduled exists planFor supplyFigure required available least testOf testConsistent testTaken figurePasses taken lastCount takenUpTo betterOf isBetter familyOf evenPlan planOr10 evenPlanAt evenGap largest fits supplyFits demandFits totalOf countAt pairGap pairSize cycleRun round checkNumber cycleNumber countAllowed gapsAllowed sizesAllowed supplyKept demandMet all
+unfolding samplesHold samples sample cycle claimsHold claimHolds same answerIs reportIs reportsAre scheduleReports wellFormed even evenReportsAre sameRate sameRange readTo specNumber limits order rateLimits rangeLimits rangeOrder sizeAllowed gapAllowed gapTop readSpec ifAccepted started sum minute heldFrom stretch proper run kindRun wellSize wellGap evenFirst evenSize reportOf consistencyOf conditionsOf boundsFitRates sizeFitsBudget gapFitsDemand demandFitsDuration fewestReportsFitBudget enoughReportsForDemand supplyCoversDemand whereRate whereRange ceil scheduleFor bothRates ratesFrom scheduled exists planFor supplyFigure required available least testOf testConsistent testTaken figurePasses taken lastCount takenUpTo betterOf isBetter familyOf evenPlan planOr10 evenPlanAt evenGap largest fits supplyFits demandFits totalOf countAt pairGap pairSize cycleRun round checkNumber cycleNumber gapsAllowed sizesAllowed supplyKept demandMet all
 samples-hold = refl

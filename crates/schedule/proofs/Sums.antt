@@ -6,7 +6,6 @@ use native.Mathlib.Nat.{add-assoc, add-zero, zero-add, add-comm, add-right-comm,
 use native.Mathlib.Numerals.{add-one}
 use mathlib.Core.Path.{_≡_, refl, _∙_}
 -- for the crates above, which take it from here
-pub use Rattle.numbers.proofs.Cases.{lt-cases}
 use Rattle.schedule.specs.Schedules.{sum}
 
 pub sum-none : (f : ℕ → ℕ) → sum f 0 ≡ 0

@@ -63,7 +63,3 @@ readSpec b =
 abbrev pub ifRead : {A : Type 0} → SpecRead → (Spec → A) → (ℕ → A) → A
 ifRead (Accepted s) goOn tell = goOn s
 ifRead (Refused n) goOn tell = tell n
-
--- the number of a refusal, 0 where the specification is accepted
-abbrev pub readNumber : SpecRead → ℕ
-readNumber read = ifRead read (λ s. 0) (λ n. n)

@@ -26,7 +26,3 @@ started s = ifAccepted s (bothRates s) Refused
 abbrev pub ifRates : {A : Type 0} → BothRates → (Rates → A) → (ℕ → A) → A
 ifRates (Both q) goOn tell = goOn q
 ifRates (Refused n) goOn tell = tell n
-
--- the number of a refusal, 0 where both rates are there
-abbrev pub ratesNumber : BothRates → ℕ
-ratesNumber q = ifRates q (λ r. 0) (λ n. n)

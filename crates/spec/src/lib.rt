@@ -12,8 +12,8 @@ ghost use lib.ListN.{length, getD};
 ghost use Rattle.spec.specs.declared.Rate.the-variants.{Absent, Present};
 ghost use Rattle.spec.specs.declared.Range.the-variants.{Absent as NoRange, Present as RangeOf};
 ghost use Rattle.spec.specs.Limits.{between, boundsLimits, rateLimits, rangeLimits, limits, rangeOrder, order, specNumber, sizeAllowed, gapAllowed};
-ghost use Rattle.spec.specs.File.{readNumber, word, demandAt, durationAt, fileLength, ifStands, specAt, accept, readSpec};
-ghost use Rattle.spec.specs.Rates.{bothRates, started, ratesNumber};
+ghost use Rattle.spec.specs.File.{ifRead, word, demandAt, durationAt, fileLength, ifStands, specAt, accept, readSpec};
+ghost use Rattle.spec.specs.Rates.{bothRates, started, ifRates};
 
 // A rate, which may be absent: so many records in so many minutes. A supply rate (B, R) is the most that so many minutes
 // may hold, a demand rate (L, P) the least.
@@ -177,7 +177,7 @@ pub fn started(s: Spec) -> BothRates
 
 // The number of a refusal, 0 where both rates are there.
 pub fn rates_number(q: BothRates) -> u32
-    ensures { λ n. ⌜ n ≡ ratesNumber q ⌝ }
+    ensures { λ n. ⌜ n ≡ ifRates q (λ both. 0) (λ m. m) ⌝ }
 {
     match q {
         BothRates::Both(_) => 0,
@@ -305,7 +305,7 @@ pub fn read_spec(bytes: &[u8]) -> SpecRead
 
 // The number of a refusal, 0 where the specification is accepted.
 pub fn read_number(r: SpecRead) -> u32
-    ensures { λ n. ⌜ n ≡ readNumber r ⌝ }
+    ensures { λ n. ⌜ n ≡ ifRead r (λ s. 0) (λ m. m) ⌝ }
 {
     match r {
         SpecRead::Accepted(_) => 0,

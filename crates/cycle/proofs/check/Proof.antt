@@ -9,8 +9,8 @@ use borrow.Author.Tests.{not-true, not-false}
 use Rattle.numbers.proofs.Negated.{held, failed}
 use Rattle.spec.specs.Limits.{IsAccepted, between}
 use Rattle.spec.proofs.Facts.{facts, between-iff}
-use Rattle.pairs.specs.Pairs.{pairsOf}
-use Rattle.cycle.specs.Check.{countAllowed, gapsAllowed, sizesAllowed, supplyKept}
+use Rattle.pairs.specs.Pairs.{countIn, pairsOf}
+use Rattle.cycle.specs.Check.{gapsAllowed, sizesAllowed, supplyKept}
 use Rattle.cycle.specs.Windows.{Walkable}
 use Rattle.cycle.proofs.Steps.{count-flat, gaps-field, sizes-field, gets-refused, gets-12, gets-13, gets-14, gets-15, gets-16, gets-0, walkable}
 use Rattle.cycle.proofs.check.Statement.{statement}
@@ -36,7 +36,7 @@ accepted c = sym (c .before .before .before .spec-number .ensures) ∙ c .before
 counted : (c : tie.Else2) → between 1 512 (length (start₂ c .args .words .now) / 2) ≡ true
 counted c = sym (c .before .count-in .ensures) ∙ not-false _ (c .if2 .left)
 
-count : (c : tie.Else2) → countAllowed (pairsOf (start₂ c .args .words .now)) ≡ true
+count : (c : tie.Else2) → countIn (length (pairsOf (start₂ c .args .words .now))) ≡ true
 count c = sym (count-flat (start₂ c .args .words .now)) ∙ counted c
 
 gaps : (c : tie.Else3) → gapsAllowed (start₃ c .args .spec) (pairsOf (start₃ c .args .words .now)) ≡ true
