@@ -13,7 +13,7 @@ use Rattle.spec.specs.File.{ifRead}
 use Rattle.pairs.specs.declared.Pair.{Pair}
 use Rattle.pairs.specs.declared.Flat.{Flat}
 use Rattle.pairs.specs.Pairs.{pairsOf, Lays}
-use Rattle.pairs.proofs.Counts.{fits, fits-all, fits-none}
+use Rattle.pairs.proofs.Counts.{copied, copied-all, copied-none}
 use Rattle.pairs.proofs.Packed.{held-pairs}
 use Rattle.numbers.proofs.Cases.{lt-cases}
 use Rattle.cycle.specs.Check.{cycleNumber, checkNumber, checkFileNumber}
@@ -24,12 +24,12 @@ unfolding checkNumber cycleNumber
 too-many spec ps h = rw (lt-leb (length ps) 512 h, and-false)
 
 -- the pairs in front of the words, as many as are laid flat, get the list's number
-pub same-number : (spec : Spec) (flat : Flat) (ps : List Pair) → Lays flat ps → (n : ℕ) → n ≡ fits (flat .count) 512 → checkNumber spec (pairsOf (take (2 * n) (flat .words))) ≡ checkNumber spec ps
+pub same-number : (spec : Spec) (flat : Flat) (ps : List Pair) → Lays flat ps → (n : ℕ) → n ≡ copied (flat .count) 512 → checkNumber spec (pairsOf (take (2 * n) (flat .words))) ≡ checkNumber spec ps
 same-number spec flat ps holds n e =
-    let n-is : n ≡ fits (length ps) 512 = e ∙ ap (λ (k : ℕ). fits k 512) (holds .count-is) in
+    let n-is : n ≡ copied (length ps) 512 = e ∙ ap (λ (k : ℕ). copied k 512) (holds .count-is) in
     ⊎-elim
-    (λ many. rw (n-is ∙ fits-none (length ps) 512 many) (too-many spec ps many))
-    (λ few. rw (n-is ∙ fits-all (length ps) few) (ap (checkNumber spec) (held-pairs flat ps holds few)))
+    (λ many. rw (n-is ∙ copied-none (length ps) 512 many) (too-many spec ps many))
+    (λ few. rw (n-is ∙ copied-all (length ps) few) (ap (checkNumber spec) (held-pairs flat ps holds few)))
     (lt-cases 512 (length ps))
 
 -- a specification's file that is refused, that is accepted

@@ -50,11 +50,11 @@ answer-first i p (pairs ps) = let e : i + suc (length ps) ≡ i + 1 + length ps 
 answer-first i p (refused n) = refl
 
 -- the answer and the words at the end
-abbrev pub Passed : Type 0
-Passed = CycleFile × List ℕ
+abbrev pub Outcome : Type 0
+Outcome = CycleFile × List ℕ
 
 -- where i pairs are stored in the words, and n are left, of which the first stands at the front of b
-abbrev pub passFrom : List ℕ → ℕ → ℕ → Before → List ℕ → Passed
+abbrev pub passFrom : List ℕ → ℕ → ℕ → Before → List ℕ → Outcome
 passFrom words i n before b = (answerFrom i (readPairs n before b), stored i (passedPairs n before b) words)
 
 pub pass-whole : (words : List ℕ) (n : ℕ) (before : Before) (b : List ℕ) → 2 * n ≤ length words → passFrom words 0 n before b ≡ (fileAnswer (readPairs n before b), laidOver (flatten (passedPairs n before b)) words)

@@ -11,18 +11,18 @@ pub countIn-true : (n : ℕ) → countIn n ≡ true → (1 ≤ n) × (n ≤ 512)
 countIn-true n e = let k = simp and-eq-true-iff at e in (leb-true 1 n (k .0), leb-true n 512 (k .1))
 
 -- how many of n pairs go to where there is room for so many
-abbrev pub fits : ℕ → ℕ → ℕ
-fits n room = cond (leb n 512 && leb n room) n 0
+abbrev pub copied : ℕ → ℕ → ℕ
+copied n room = cond (leb n 512 && leb n room) n 0
 
-least-by : (n room : ℕ) (t : Bool) → (leb n 512 && leb n room) ≡ t → (fits n room ≤ n) × (fits n room ≤ 512) × (fits n room ≤ room)
+least-by : (n room : ℕ) (t : Bool) → (leb n 512 && leb n room) ≡ t → (copied n room ≤ n) × (copied n room ≤ 512) × (copied n room ≤ room)
 least-by n room true e = let k = simp and-eq-true-iff at e in simp e (le-refl n, leb-true n 512 (k .0), leb-true n room (k .1))
 least-by n room false e = simp e (zero-le, zero-le, zero-le)
 
-pub fits-least : (n room : ℕ) → (fits n room ≤ n) × (fits n room ≤ 512) × (fits n room ≤ room)
-fits-least n room = least-by n room (leb n 512 && leb n room) refl
+pub copied-least : (n room : ℕ) → (copied n room ≤ n) × (copied n room ≤ 512) × (copied n room ≤ room)
+copied-least n room = least-by n room (leb n 512 && leb n room) refl
 
-pub fits-all : (n : ℕ) → n ≤ 512 → fits n 512 ≡ n
-fits-all n h = simp (le-leb n 512 h)
+pub copied-all : (n : ℕ) → n ≤ 512 → copied n 512 ≡ n
+copied-all n h = simp (le-leb n 512 h)
 
-pub fits-none : (n room : ℕ) → 512 < n → fits n room ≡ 0
-fits-none n room h = simp (lt-leb n 512 h)
+pub copied-none : (n room : ℕ) → 512 < n → copied n room ≡ 0
+copied-none n room h = simp (lt-leb n 512 h)

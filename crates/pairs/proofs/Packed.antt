@@ -14,7 +14,7 @@ use Rattle.pairs.specs.declared.Pair.{Pair}
 use Rattle.pairs.specs.declared.Flat.{Flat}
 use Rattle.pairs.specs.Pairs.{noPair, flatten, pairsOf, Lays, laidOver}
 use Rattle.pairs.proofs.FlatLists.{pairsOf-flatten, pairsOf-take, length-pairsOf, pair-pairsOf}
-use Rattle.pairs.proofs.Counts.{fits, fits-all}
+use Rattle.pairs.proofs.Counts.{copied, copied-all}
 use Rattle.pairs.proofs.LaidOver.{length-laidOver, laidOver-next}
 
 -- the pairs of a flat form that holds at most 512
@@ -53,7 +53,7 @@ done-by flat old ps h true e =
     ap (λ (l : List Pair). laidOver l old) (sym (pairsOf-take (length ps) (flat .words)) ∙ held-pairs flat ps h (leb-true _ _ (k .0)))
 done-by flat old ps h false e = refl
 
-pub packed-done : (flat : Flat) (old : List Pair) (i : ℕ) → i ≡ fits (flat .count) (length old) → Packs flat old (packed (flat .words) old i)
+pub packed-done : (flat : Flat) (old : List Pair) (i : ℕ) → i ≡ copied (flat .count) (length old) → Packs flat old (packed (flat .words) old i)
 packed-done flat old i e ps h =
-    ap (packed (flat .words) old) (e ∙ ap (λ (n : ℕ). fits n (length old)) (h .count-is))
+    ap (packed (flat .words) old) (e ∙ ap (λ (n : ℕ). copied n (length old)) (h .count-is))
     ∙ done-by flat old ps h (leb (length ps) 512 && leb (length ps) (length old)) refl

@@ -10,7 +10,7 @@ use Rattle.pairs.specs.declared.Pair.{Pair}
 use Rattle.pairs.specs.declared.Flat.{Flat}
 use Rattle.pairs.specs.Pairs.{noPair, flatten, Lays}
 use Rattle.pairs.proofs.FlatLists.{length-flatten, flatten-append}
-use Rattle.pairs.proofs.Counts.{fits, fits-all, fits-none}
+use Rattle.pairs.proofs.Counts.{copied, copied-all, copied-none}
 
 -- it stays shut: a proof that computes it has 1,024 terms
 unfoldable pub zeros : List ℕ
@@ -77,11 +77,11 @@ laid-none : (ps : List Pair) → laid ps 0 ≡ replicate 1024 0
 unfolding zeros
 laid-none ps = refl
 
-pub laid-done : (ps : List Pair) (i : ℕ) → i ≡ fits (length ps) 512 → Unpacks ps (laidFlat ps i)
+pub laid-done : (ps : List Pair) (i : ℕ) → i ≡ copied (length ps) 512 → Unpacks ps (laidFlat ps i)
 laid-done ps i e = (
   refl,
-  λ few. ap (laid ps) (e ∙ fits-all (length ps) few) ∙ laid-all ps,
-  λ many. ap (laid ps) (e ∙ fits-none (length ps) 512 many) ∙ laid-none ps,
+  λ few. ap (laid ps) (e ∙ copied-all (length ps) few) ∙ laid-all ps,
+  λ many. ap (laid ps) (e ∙ copied-none (length ps) 512 many) ∙ laid-none ps,
 )
 
 -- so it holds those pairs

@@ -6,13 +6,13 @@ use mathlib.Core.Path.{_≡_, sym, _∙_, subst}
 use lib.ListN.{length}
 use lib.Seq.{length-take-le}
 use borrow.Author.Needs.{needs}
-use Rattle.pairs.proofs.Counts.{fits, fits-least}
+use Rattle.pairs.proofs.Counts.{copied, copied-least}
 use Rattle.cycle.proofs.FlatForms.{same-number, read-refused, read-accepted}
 use Rattle.cycle.proofs.check_unpacked_file.Statement.{statement}
 use Rattle.cycle.proofs.check_unpacked_file.Tie as tie
 
-few : (count n : ℕ) → n ≡ fits count 512 → n ≤ 512
-few count n e = subst (λ (k : ℕ). k ≤ 512) (sym e) (fits-least count 512 .1)
+few : (count n : ℕ) → n ≡ copied count 512 → n ≤ 512
+few count n e = subst (λ (k : ℕ). k ≤ 512) (sym e) (copied-least count 512 .1)
 
 read-spec-requires : tie.Need-read-spec-requires
 read-spec-requires c κs = search needs

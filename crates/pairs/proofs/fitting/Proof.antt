@@ -3,14 +3,14 @@ use mathlib.Core.Path.{_≡_}
 use Prim.Native.Nat.{ℕ}
 use mathlib.Core.Bool.{true, false, _&&_}
 use lib.Dec.{leb}
-use Rattle.pairs.proofs.Counts.{fits}
+use Rattle.pairs.proofs.Counts.{copied}
 use Rattle.pairs.proofs.fitting.Statement.{statement}
 use Rattle.pairs.proofs.fitting.Tie as tie
 
-all : (n room : ℕ) → (leb n 512 && leb n room) ≡ true → n ≡ fits n room
+all : (n room : ℕ) → (leb n 512 && leb n room) ≡ true → n ≡ copied n room
 all n room e = simp e
 
-none : (n room : ℕ) → (leb n 512 && leb n room) ≡ false → 0 ≡ fits n room
+none : (n room : ℕ) → (leb n 512 && leb n room) ≡ false → 0 ≡ copied n room
 none n room e = simp e
 
 returns : tie.Need-returns

@@ -57,7 +57,7 @@ use Rattle.pairs.specs.Pairs.{noPair}
 use Rattle.pairs.specs.declared.Pair.{Pair}
 use Rattle.pairs.specs.declared.Flat.{Flat}
 use Rattle.pairs.proofs.LocalArray.{arr, out-of, into}
-use Rattle.pairs.proofs.Counts.{fits, fits-least}
+use Rattle.pairs.proofs.Counts.{copied, copied-least}
 use Rattle.pairs.proofs.Packed.{wordPair, packed, length-packed, packed-next, packed-done}
 use Rattle.pairs.proofs.Pair as P
 use Rattle.pairs.proofs.Pair.Laws as P′
@@ -122,10 +122,10 @@ module _ {M : Type 1} (𝓤 : URA M) (H : Heap 𝓤) (A : Atoms 𝓤) (W : Given
 
   -- how many pairs are packed
   abbrev m : ℕ
-  m = fits (flat .count) (length ys)
+  m = copied (flat .count) (length ys)
 
   limits : (m ≤ flat .count) × (m ≤ 512) × (m ≤ length ys)
-  limits = fits-least (flat .count) (length ys)
+  limits = copied-least (flat .count) (length ys)
 
   -- what the callee is passed, and of its `ensured` the clause alone
   abbrev to-fitting : Fitting 𝓤 H A mem run .Ghost

@@ -41,7 +41,7 @@ use denote.Slice.{sliceTy, sliceVal, ShrSlice, Room, heres, codedHoleys, slice-v
 use denote.Index.{row, place-is, elem-out, elem-back, elem-put, looks-slice, shuts-slice}
 use denote.Array.{Array, arrayVal, array-lawful, array-makes}
 use Rattle.pairs.proofs.LocalArray.{repeated, arr, out-of, into}
-use Rattle.pairs.proofs.Counts.{fits, fits-least}
+use Rattle.pairs.proofs.Counts.{copied, copied-least}
 use Rattle.pairs.proofs.Unpacked.{zeros-is, laid, length-laid, laid-next, laidFlat, laid-done}
 use denote.Signature.{plain}
 use denote.Steps.{owned, peeks, heard, nothing, only}
@@ -86,8 +86,8 @@ module _ {M : Type 1} (𝓤 : URA M) (H : Heap 𝓤) (A : Atoms 𝓤) (mem′ : 
   abbrev Fitting : Contract 𝓤
   Fitting = tripleOf 𝓤 H A fitting.signature (fitting.spec 𝓤 H A mem′ run)
 
-  fitting-said : (n r : ℕ) → ent 𝓤 (ensured 𝓤 H A fitting.ended (fitting.clauses 𝓤 H A mem′ run) tt (n, (512, tt)) tt r) (fact 𝓤 (r ≡ fits n 512))
-  fitting-said n r = exE 𝓤 _ (λ ws. snd∗ 𝓤 (sem 𝓤 H A (lasts fitting.ended tt (n, (512, tt)) ws)) (fact 𝓤 (r ≡ fits n 512)))
+  fitting-said : (n r : ℕ) → ent 𝓤 (ensured 𝓤 H A fitting.ended (fitting.clauses 𝓤 H A mem′ run) tt (n, (512, tt)) tt r) (fact 𝓤 (r ≡ copied n 512))
+  fitting-said n r = exE 𝓤 _ (λ ws. snd∗ 𝓤 (sem 𝓤 H A (lasts fitting.ended tt (n, (512, tt)) ws)) (fact 𝓤 (r ≡ copied n 512)))
 
 module _ {M : Type 1} (𝓤 : URA M) (H : Heap 𝓤) (A : Atoms 𝓤) (W : Given 𝓤 H A) (at-mem : Memory → SProp 𝓤) (run : Routine → Fun 𝓤) (κ : Lft) (q : Share) (b o : ℕ) (γ : GName) (ps : List Pair) (room : Room P.the-row (length ps)) where
   abbrev n : ℕ
@@ -95,10 +95,10 @@ module _ {M : Type 1} (𝓤 : URA M) (H : Heap 𝓤) (A : Atoms 𝓤) (W : Given
 
   -- how many pairs are put
   abbrev m : ℕ
-  m = fits n 512
+  m = copied n 512
 
   limits : (m ≤ n) × (m ≤ 512) × (m ≤ 512)
-  limits = fits-least n 512
+  limits = copied-least n 512
 
   abbrev x : RefT (List Pair) × Unit {0}
   x = (record { ptr = (b, o); name = γ; now = ps }, tt)
@@ -314,7 +314,7 @@ module _ {M : Type 1} (𝓤 : URA M) (H : Heap 𝓤) (A : Atoms 𝓤) (W : Given
       nothing ! $ use1 W (raw (Fitting 𝓤 H A at-mem run .pre to-fitting)) goes-fitting $
       calls-at ! (fmOf 𝓤 H (W .laws) 𝓣) (Fitting 𝓤 H A at-mem run) known to-fitting (and-then ! (load ! (from ! (stop !)) (look ! 31 refl)) (and-then ! (lit ! tt) (no-more !))) (λ v.
       use1 W (later (some (λ (r : ℕ). (‵ ftrue ⊛ ‵ (usize .own r (v ∷ []))) ⊛ raw (ensured 𝓤 H A fitting.ended (fitting.clauses 𝓤 H A at-mem run) tt (n, (512, tt)) tt r)))) (id⊢ 𝓤 _) $ await ! tt $ pick ! (λ r.
-      split ! $ move ! (1 ∷ []) $ use1 W (raw (fact 𝓤 (r ≡ fits n 512))) (fitting-said 𝓤 H A at-mem run n r) $ heard ! (r ≡ fits n 512) (λ e. split ! $ drop ! $
+      split ! $ move ! (1 ∷ []) $ use1 W (raw (fact 𝓤 (r ≡ copied n 512))) (fitting-said 𝓤 H A at-mem run n r) $ heard ! (r ≡ copied n 512) (λ e. split ! $ drop ! $
       peeks ! usize (Is usize) (shows 𝓤 H A usize) r (v ∷ []) (λ is.
       land ! (from ! (stop !)) (init ! 29 refl (uint-lawful 𝓤 H A W w64 .typed r _ is .0)) $ drop ! $
       rewrite ! 28 (λ (u : Val). ‵ (fat fullShare (tyInt w64) l₃ 0 u)) (ap only (is .0)) refl $ rewrite ! 28 (λ (k : ℕ). ‵ (fat fullShare (tyInt w64) l₃ 0 (vint w64 k))) e refl $

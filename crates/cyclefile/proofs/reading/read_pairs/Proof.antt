@@ -11,7 +11,7 @@ use borrow.Author.Needs.{needs}
 use Rattle.cyclefile.specs.declared.reading.CycleFile.{CycleFile}
 use Rattle.cyclefile.specs.File.{none}
 use Rattle.cyclefile.specs.InnerPromises.{beforeIs}
-use Rattle.cyclefile.proofs.OnePass.{Passed, passFrom, pass-whole, step-within, pass-next, pass-refused, pass-end, pass-over}
+use Rattle.cyclefile.proofs.OnePass.{Outcome, passFrom, pass-whole, step-within, pass-next, pass-refused, pass-end, pass-over}
 use Rattle.cyclefile.proofs.reading.read_pairs.Statement.{statement}
 use Rattle.cyclefile.proofs.reading.read_pairs.Tie as tie
 
@@ -23,8 +23,8 @@ abbrev μ-loop : tie.MeasureT-loop
 μ-loop file count words₀ at₀ gap₀ size₀ i₀ words at gap size i = count - i
 
 -- the answer and the words, each by itself
-both : {a b : CycleFile} {l m : List ℕ} → _≡_ {A = Passed} (a, l) (b, m) → (a ≡ b) × (l ≡ m)
-both e = (ap (λ (x : Passed). x .0) e, ap (λ (x : Passed). x .1) e)
+both : {a b : CycleFile} {l m : List ℕ} → _≡_ {A = Outcome} (a, l) (b, m) → (a ≡ b) × (l ≡ m)
+both e = (ap (λ (x : Outcome). x .0) e, ap (λ (x : Outcome). x .1) e)
 
 loop-holds : tie.Need-loop-holds Inv-loop μ-loop
 loop-holds c =
