@@ -15,7 +15,7 @@ use Rattle.cyclefile.specs.declared.reading.steps.Step.{Step}
 use Rattle.spec.specs.File.{word}
 use Rattle.cyclefile.specs.File.{Before, none, behind, hasGap, hasSize, fieldLength, bytesTaken, lastPair, pairAt, mapIsWrong, standsInVain, readPair, PairRead, Taken, Stopped}
 use Rattle.cyclefile.specs.InnerPromises.{beforeIs, wrongHere, fieldOf, inVain, stoppedBy, stepOf}
-use Rattle.cyclefile.proofs.Fields.{isFirst-flag, stands-flag}
+use Rattle.cyclefile.proofs.Fields.{wrong-flag, stands-flag}
 use Rattle.cyclefile.proofs.OnePair.{no-map, wrong-map, field-cut, in-vain, taken}
 
 word-drop : (n : ℕ) (l : List ℕ) (i : ℕ) → word (drop n l) i ≡ word l (n + i)
@@ -45,7 +45,7 @@ module _ (file : List ℕ) (i : ℕ) (first : Bool) (g s : ℕ) where
   map-here = getD-drop i file 0 0 ∙ ap (λ (k : ℕ). getD file k 0) (add-zero i)
 
   wrong-is : mapIsWrong before (getD (drop i file) 0 0) ≡ wrongHere first m
-  wrong-is = rw (map-here, isFirst-flag first q)
+  wrong-is = rw map-here (wrong-flag first q m)
 
   pub step-none : length file - i ≡ 0 → stoppedBy 18 ≡ stepOf i (readPair before (drop i file))
   step-none e = rw (no-map before (drop i file) (length-drop i file ∙ e))

@@ -5,7 +5,7 @@ use Prim.Native.Nat.{ℕ, zero, suc, _+_, _*_, _/_, _%_, _≤_, _<_}
 use native.Mathlib.Nat.{zero-add}
 use native.Mathlib.Numerals.{add-one}
 use native.Mathlib.Omega.{arith}
-use mathlib.Core.Bool.{Bool, true, false, cond, not, _&&_, _||_, and-false}
+use mathlib.Core.Bool.{Bool, true, false, cond, not, _&&_, _||_}
 use mathlib.Core.List.{List, [], _∷_, _++_}
 use lib.Dec.{ltb}
 use lib.ListN.{length, getD, take, drop, length-append, take-append-drop}
@@ -13,7 +13,7 @@ use lib.Seq.{drop-append-seam, drop-cons, take-add, getD-drop}
 use borrow.Author.Tests.{eqb-true, eq-eqb, not-false, le-leb, ltb-false}
 use Rattle.pairs.specs.declared.Pair.{Pair}
 use Rattle.spec.specs.File.{word}
-use Rattle.cyclefile.specs.File.{AreBytes, readCycle, Before, none, behind, isFirst, lastPair, stands, gapStands, sizeStands, mapByte, bytesOf, fieldBytes, pairBytes, pairsBytes, cycleBytes, pairs, hasGap, hasSize, mapIsWrong, fieldLength, bytesTaken, pairAt, standsInVain, readPair, readPairs, Taken}
+use Rattle.cyclefile.specs.File.{AreBytes, readCycle, Before, none, behind, lastPair, stands, gapStands, sizeStands, mapByte, bytesOf, fieldBytes, pairBytes, pairsBytes, cycleBytes, pairs, hasGap, hasSize, mapIsWrong, fieldLength, bytesTaken, pairAt, standsInVain, readPair, readPairs, Taken}
 use Rattle.pairs.proofs.Counts.{countIn-true}
 use Rattle.cyclefile.proofs.OnePair.{took}
 use Rattle.cyclefile.proofs.OnePair as one
@@ -47,14 +47,15 @@ no-more-bits true false = refl
 no-more-bits false true = refl
 no-more-bits false false = refl
 
--- a field that is left out equals the one before, and its pair is not the first
+-- a field that is left out equals the one before
 left-out : (before : Before) (field : Pair → ℕ) (p : Pair) → stands before field p ≡ false → field (lastPair before) ≡ field p
 left-out none field p e = absurd (let z : _≡_ {A = Bool} true false = e in let y : _≡_ {A = ℕ} 0 1 = cc in omega arith)
 left-out (behind q) field p e = sym (eqb-true (field p) (field q) (not-false _ e))
 
-not-first : (before : Before) (field : Pair → ℕ) (p : Pair) → stands before field p ≡ false → isFirst before ≡ false
-not-first none field p e = e
-not-first (behind q) field p e = refl
+-- a first pair has both bits, and no pair has more
+map-right : (before : Before) (p : Pair) (g s : Bool) → gapStands before p ≡ g → sizeStands before p ≡ s → mapIsWrong before (mapByte g s) ≡ false
+map-right none p g s e f = rw (← e, ← f)
+map-right (behind q) p g s e f = no-more-bits g s
 
 same-pair : (p : Pair) (g s : ℕ) → g ≡ p .gap → s ≡ p .size → record { gap = g; size = s } ≡ p
 same-pair p g s e f = ap (λ (k : ℕ). record { gap = k; size = s }) e ∙ ap (λ (k : ℕ). record { gap = p .gap; size = k }) f
@@ -70,12 +71,6 @@ module _ (before : Before) (p : Pair) (rest : List ℕ) where
   pair-back false true e f = same-pair p _ _ (left-out before (λ (q : Pair). q .gap) p e) (joined (p .size))
   pair-back false false e f = same-pair p _ _ (left-out before (λ (q : Pair). q .gap) p e) (left-out before (λ (q : Pair). q .size) p f)
 
-  map-right : (g s : Bool) → gapStands before p ≡ g → sizeStands before p ≡ s → mapIsWrong before (mapByte g s) ≡ false
-  map-right true true e f = and-false (isFirst before)
-  map-right true false e f = rw (not-first before (λ (q : Pair). q .size) p f)
-  map-right false true e f = rw (not-first before (λ (q : Pair). q .gap) p e)
-  map-right false false e f = rw (not-first before (λ (q : Pair). q .gap) p e)
-
   none-in-vain : (g s : Bool) → gapStands before p ≡ g → sizeStands before p ≡ s → standsInVain before (mapByte g s) p ≡ false
   none-in-vain true true e f = rw (e, f)
   none-in-vain true false e f = rw e
@@ -89,7 +84,7 @@ module _ (before : Before) (p : Pair) (rest : List ℕ) where
       let s = sizeStands before p in
       let back = pair-back g s refl refl in
       let taken : bytesTaken (mapByte g s) ≡ length (pairBytes before p) = rw (has-gap g s, has-size g s, length-pairBytes) in
-      one.taken before (bytesAnd g s) (λ z. omega arith) (map-right g s refl refl) (omega (arith, taken, length-append (pairBytes before p) rest)) (rw back (none-in-vain g s refl refl)) ∙ rw (back, taken)
+      one.taken before (bytesAnd g s) (λ z. omega arith) (map-right before p g s refl refl) (omega (arith, taken, length-append (pairBytes before p) rest)) (rw back (none-in-vain g s refl refl)) ∙ rw (back, taken)
 
 -- the pairs of a cycle, and nothing behind them
 pairs-read : (before : Before) (ps : List Pair) → readPairs (length ps) before (pairsBytes before ps) ≡ pairs ps
@@ -143,8 +138,13 @@ no-bytes : (b : List ℕ) → length b ≡ 0 → b ≡ []
 no-bytes [] e = refl
 no-bytes (x ∷ b) e = absurd (omega arith)
 
+-- a map byte that is not wrong: no bits above the second, and both below it in the first pair
+map-told : (before : Before) (m : ℕ) → mapIsWrong before m ≡ false → (ltb 3 m ≡ false) × (before ≡ none → (hasGap m && hasSize m) ≡ true)
+map-told none m e = let k = or-false (ltb 3 m) (not (hasGap m && hasSize m)) e in (k .0, λ z. not-false _ (k .1))
+map-told (behind q) m e = (e, λ z. absurd (let y : _≡_ {A = ℕ} 0 1 = cc in omega arith))
+
 -- a field that was read stands exactly where it should
-stands-right : (before : Before) (field : Pair → ℕ) (p : Pair) (t : Bool) (n : ℕ) → (isFirst before ≡ true → t ≡ true) → field p ≡ cond t n (field (lastPair before)) → (t && not (stands before field p)) ≡ false → stands before field p ≡ t
+stands-right : (before : Before) (field : Pair → ℕ) (p : Pair) (t : Bool) (n : ℕ) → (before ≡ none → t ≡ true) → field p ≡ cond t n (field (lastPair before)) → (t && not (stands before field p)) ≡ false → stands before field p ≡ t
 stands-right none field p t n h e v = sym (h refl)
 stands-right (behind q) field p true n h e v = not-false _ v
 stands-right (behind q) field p false n h e v = ap not (eq-eqb (field p) (field q) e)
@@ -168,11 +168,10 @@ pair-kept before b p n small h =
     let t = took before b p n h in
     let m = getD b 0 0 in
     let q = pairAt (lastPair before) b in
-    let right = or-false (ltb 3 m) (isFirst before && not (hasGap m && hasSize m)) (t .right) in
-    let both : isFirst before ≡ true → (hasGap m && hasSize m) ≡ true = λ f. not-false _ (rw f at (right .1)) in
+    let right = map-told before m (t .right) in
     let vain = or-false (hasGap m && not (gapStands before q)) (hasSize m && not (sizeStands before q)) (t .none-in-vain) in
-    let gap : gapStands before q ≡ hasGap m = stands-right before (λ (r : Pair). r .gap) q (hasGap m) (word b 1) (λ f. and-true-left (hasGap m) (hasSize m) (both f)) refl (vain .0) in
-    let size : sizeStands before q ≡ hasSize m = stands-right before (λ (r : Pair). r .size) q (hasSize m) (word b (1 + fieldLength (hasGap m))) (λ f. and-true-right (hasGap m) (hasSize m) (both f)) refl (vain .1) in
+    let gap : gapStands before q ≡ hasGap m = stands-right before (λ (r : Pair). r .gap) q (hasGap m) (word b 1) (λ f. and-true-left (hasGap m) (hasSize m) (right .1 f)) refl (vain .0) in
+    let size : sizeStands before q ≡ hasSize m = stands-right before (λ (r : Pair). r .size) q (hasSize m) (word b (1 + fieldLength (hasGap m))) (λ f. and-true-right (hasGap m) (hasSize m) (right .1 f)) refl (vain .1) in
     let bytes : pairBytes before q ≡ take (bytesTaken m) b =
     ap (λ (t : Bool). mapByte t (sizeStands before q) ∷ (fieldBytes t (q .gap) ++ fieldBytes (sizeStands before q) (q .size))) gap
     ∙ ap (λ (t : Bool). mapByte (hasGap m) t ∷ (fieldBytes (hasGap m) (q .gap) ++ fieldBytes t (q .size))) size

@@ -19,10 +19,6 @@ pub data Before : Type 0 where
   none : Before
   behind : Pair → Before
 
-abbrev pub isFirst : Before → Bool
-isFirst none = true
-isFirst (behind q) = false
-
 -- ---- Writing
 
 -- 2 bytes, high byte first
@@ -78,7 +74,8 @@ hasSize m = eqb (m / 2 % 2) 1
 
 -- "bits 2 to 7 stand or a first pair lacks a field"
 abbrev pub mapIsWrong : Before → ℕ → Bool
-mapIsWrong before m = ltb 3 m || (isFirst before && not (hasGap m && hasSize m))
+mapIsWrong none m = ltb 3 m || not (hasGap m && hasSize m)
+mapIsWrong (behind q) m = ltb 3 m
 
 abbrev pub fieldLength : Bool → ℕ
 fieldLength stands = cond stands 2 0

@@ -4,8 +4,8 @@ use Prim.Native.Nat.{ℕ, zero, suc, _+_, _*_, _/_, _<_}
 use native.Mathlib.Numerals.{add-one}
 use native.Mathlib.Omega.{arith}
 use mathlib.Core.List.{List, [], _∷_, _++_}
-use lib.ListN.{length, getD, set, take, drop}
-use lib.Seq.{take-nil, drop-nil}
+use lib.ListN.{length, getD, take}
+use lib.Seq.{take-nil}
 use Rattle.pairs.specs.declared.Pair.{Pair}
 use Rattle.pairs.specs.Pairs.{noPair, flatten, pairsOf}
 
@@ -18,18 +18,11 @@ odd-suc i = omega arith
 half-suc : (n : ℕ) → suc (suc n) / 2 ≡ suc (n / 2)
 half-suc n = omega arith
 
--- ---- one way and back
+-- ---- back
 
 pub pairsOf-flatten : (ps : List Pair) → pairsOf (flatten ps) ≡ ps
 pairsOf-flatten [] = refl
 pairsOf-flatten (p ∷ ps) = ap (λ (l : List Pair). p ∷ l) (pairsOf-flatten ps)
-
--- a flat list of even length holds nothing but its pairs
-pub flatten-pairsOf : (l : List ℕ) (n : ℕ) → length l ≡ 2 * n → flatten (pairsOf l) ≡ l
-flatten-pairsOf [] n h = refl
-flatten-pairsOf (g ∷ []) n h = absurd (omega arith)
-flatten-pairsOf (g ∷ s ∷ l) zero h = absurd (omega arith)
-flatten-pairsOf (g ∷ s ∷ l) (suc n) h = ap (λ (k : List ℕ). g ∷ s ∷ k) (flatten-pairsOf l n (omega arith))
 
 -- ---- lengths
 
@@ -60,43 +53,14 @@ size-pairsOf (g ∷ s ∷ l) (suc j) = size-pairsOf l j ∙ ap (λ (k : ℕ). ge
 pub pair-pairsOf : (l : List ℕ) (j : ℕ) → j < length l / 2 → getD (pairsOf l) j noPair ≡ record { gap = getD l (2 * j) 0; size = getD l (2 * j + 1) 0 }
 pair-pairsOf l j h = ap (λ (g : ℕ). record { gap = g; size = getD (pairsOf l) j noPair .size }) (gap-pairsOf l j h) ∙ ap (λ (s : ℕ). record { gap = getD l (2 * j) 0; size = s }) (size-pairsOf l j)
 
-pub gap-flatten : (ps : List Pair) (j : ℕ) → getD (flatten ps) (2 * j) 0 ≡ getD ps j noPair .gap
-gap-flatten [] j = refl
-gap-flatten (p ∷ ps) zero = refl
-gap-flatten (p ∷ ps) (suc j) = ap (λ (k : ℕ). getD (flatten (p ∷ ps)) k 0) (twice-suc j) ∙ gap-flatten ps j
-
-pub size-flatten : (ps : List Pair) (j : ℕ) → getD (flatten ps) (2 * j + 1) 0 ≡ getD ps j noPair .size
-size-flatten [] j = refl
-size-flatten (p ∷ ps) zero = refl
-size-flatten (p ∷ ps) (suc j) = ap (λ (k : ℕ). getD (flatten (p ∷ ps)) k 0) (odd-suc j) ∙ size-flatten ps j
-
 -- ---- parts
 
 pub flatten-append : (ps qs : List Pair) → flatten (ps ++ qs) ≡ flatten ps ++ flatten qs
 flatten-append [] qs = refl
 flatten-append (p ∷ ps) qs = ap (λ (l : List ℕ). p .gap ∷ p .size ∷ l) (flatten-append ps qs)
 
-pub pairsOf-append : (ps : List Pair) (l : List ℕ) → pairsOf (flatten ps ++ l) ≡ ps ++ pairsOf l
-pairsOf-append [] l = refl
-pairsOf-append (p ∷ ps) l = ap (λ (qs : List Pair). p ∷ qs) (pairsOf-append ps l)
-
 pub pairsOf-take : (n : ℕ) (l : List ℕ) → pairsOf (take (2 * n) l) ≡ take n (pairsOf l)
 pairsOf-take zero l = refl
 pairsOf-take (suc n) [] = ap pairsOf (take-nil (2 * suc n))
 pairsOf-take (suc n) (g ∷ []) = ap (λ (k : ℕ). pairsOf (take k (g ∷ []))) (twice-suc n) ∙ ap (λ (l : List ℕ). pairsOf (g ∷ l)) (take-nil (suc (2 * n)))
 pairsOf-take (suc n) (g ∷ s ∷ l) = ap (λ (k : ℕ). pairsOf (take k (g ∷ s ∷ l))) (twice-suc n) ∙ ap (λ (ps : List Pair). record { gap = g; size = s } ∷ ps) (pairsOf-take n l)
-
-pub pairsOf-drop : (n : ℕ) (l : List ℕ) → pairsOf (drop (2 * n) l) ≡ drop n (pairsOf l)
-pairsOf-drop zero l = refl
-pairsOf-drop (suc n) [] = ap pairsOf (drop-nil (2 * suc n))
-pairsOf-drop (suc n) (g ∷ []) = ap (λ (k : ℕ). pairsOf (drop k (g ∷ []))) (twice-suc n) ∙ ap (λ (l : List ℕ). pairsOf l) (drop-nil (suc (2 * n)))
-pairsOf-drop (suc n) (g ∷ s ∷ l) = ap (λ (k : ℕ). pairsOf (drop k (g ∷ s ∷ l))) (twice-suc n) ∙ pairsOf-drop n l
-
--- a pair is put in by its two numbers
-pub flatten-set : (ps : List Pair) (i : ℕ) (p : Pair) → set (set (flatten ps) (2 * i) (p .gap)) (2 * i + 1) (p .size) ≡ flatten (set ps i p)
-flatten-set [] i p = refl
-flatten-set (q ∷ ps) zero p = refl
-flatten-set (q ∷ ps) (suc i) p =
-    ap (λ (k : ℕ). set (set (flatten (q ∷ ps)) k (p .gap)) (2 * suc i + 1) (p .size)) (twice-suc i)
-    ∙ ap (λ (k : ℕ). set (set (flatten (q ∷ ps)) (suc (suc (2 * i))) (p .gap)) k (p .size)) (odd-suc i)
-    ∙ ap (λ (l : List ℕ). q .gap ∷ q .size ∷ l) (flatten-set ps i p)
