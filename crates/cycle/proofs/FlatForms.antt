@@ -1,6 +1,6 @@
 -- The number of a list of pairs by a flat form that holds it, and by what reading a specification's file gave.
 use Prim.Native.Nat.{ℕ, _*_, _<_}
-use mathlib.Core.Path.{_≡_, sym, ap, _∙_}
+use mathlib.Core.Path.{_≡_, ap, _∙_}
 use mathlib.Core.Logic.{⊎-elim}
 use mathlib.Core.Bool.{and-false}
 use mathlib.Core.List.{List, []}

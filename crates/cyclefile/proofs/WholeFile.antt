@@ -1,6 +1,6 @@
 -- Reading a whole file, by cases: what `readCycle` and `storedPairs` are where each test of them went one way, what is known where they
 -- give pairs, and that more than 512 places change nothing. Assumes nothing.
-use mathlib.Core.Path.{_≡_, refl, sym, ap, _∙_}
+use mathlib.Core.Path.{_≡_, refl, sym, _∙_}
 use Prim.Native.Nat.{ℕ, _≤_, _<_, min}
 use native.Mathlib.Omega.{arith}
 use mathlib.Core.Bool.{Bool, true, false, _||_}

@@ -1,20 +1,20 @@
 -- Laws of packing: what the lent list holds while i pairs are packed, and when all are; and what a flat form says of the pairs that it
 -- holds. Assumes nothing.
 use mathlib.Core.Path.{_≡_, refl, sym, ap, _∙_}
-use Prim.Native.Nat.{ℕ, suc, _+_, _*_, _/_, _≤_, _<_}
+use Prim.Native.Nat.{ℕ, _+_, _*_, _≤_, _<_}
 use native.Mathlib.Numerals.{add-one}
 use native.Mathlib.Omega.{arith}
 use mathlib.Core.Bool.{Bool, true, false, cond, _&&_, and-eq-true-iff}
-use mathlib.Core.List.{List, []}
+use mathlib.Core.List.{List}
 use lib.Dec.{leb}
 use lib.ListN.{length, getD, set, take}
 use lib.Seq.{length-take-le, take-suc}
 use borrow.Author.Tests.{leb-true}
 use Rattle.pairs.specs.declared.Pair.{Pair}
 use Rattle.pairs.specs.declared.Flat.{Flat}
-use Rattle.pairs.specs.Pairs.{noPair, flatten, pairsOf, Lays, laidOver}
+use Rattle.pairs.specs.Pairs.{noPair, pairsOf, Lays, laidOver}
 use Rattle.pairs.proofs.FlatLists.{pairsOf-flatten, pairsOf-take, length-pairsOf, pair-pairsOf}
-use Rattle.pairs.proofs.Counts.{copied, copied-all}
+use Rattle.pairs.proofs.Counts.{copied}
 use Rattle.pairs.proofs.LaidOver.{length-laidOver, laidOver-next}
 
 -- the pairs of a flat form that holds at most 512

@@ -6,7 +6,7 @@ use mathlib.Core.Path.{_≡_, refl, sym, ap, subst}
 use Prim.Native.Nat.{ℕ, _+_, _-_, _*_, _≤_, _<_, _^_, zero-le}
 use borrow.Author.Tests.{ltb-true, ltb-false}
 use native.Mathlib.Nat.{le-antisymm, lt-of-le-of-lt, lt-of-lt-of-le}
-use native.Mathlib.Numerals.{add-one, add-one-le, add-one-dec}
+use native.Mathlib.Numerals.{add-one-le, add-one-dec}
 use native.Mathlib.Omega.{arith}
 use mathlib.Core.Bool.{Bool, true, false}
 use mathlib.Core.WellFounded.{WellFounded, InvImage·wf}
