@@ -24,6 +24,13 @@ pub pairsOf-flatten : (ps : List Pair) → pairsOf (flatten ps) ≡ ps
 pairsOf-flatten [] = refl
 pairsOf-flatten (p ∷ ps) = ap (λ (l : List Pair). p ∷ l) (pairsOf-flatten ps)
 
+-- and of a list of even length back again
+pub flatten-pairsOf : (n : ℕ) (l : List ℕ) → length l ≡ 2 * n → flatten (pairsOf l) ≡ l
+flatten-pairsOf n [] e = refl
+flatten-pairsOf zero (g ∷ l) e = absurd (omega arith)
+flatten-pairsOf (suc n) (g ∷ []) e = absurd (omega arith)
+flatten-pairsOf (suc n) (g ∷ s ∷ l) e = ap (λ (r : List ℕ). g ∷ s ∷ r) (flatten-pairsOf n l (omega arith))
+
 -- ---- lengths
 
 pub length-flatten : (ps : List Pair) → length (flatten ps) ≡ 2 * length ps

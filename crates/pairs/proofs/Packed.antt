@@ -4,22 +4,42 @@ use mathlib.Core.Path.{_≡_, refl, sym, ap, _∙_}
 use Prim.Native.Nat.{ℕ, _+_, _*_, _≤_, _<_}
 use native.Mathlib.Numerals.{add-one}
 use native.Mathlib.Omega.{arith}
+use native.Mathlib.Decide.{decLt}
 use mathlib.Core.Bool.{Bool, true, false, cond, _&&_, and-eq-true-iff}
 use mathlib.Core.List.{List}
 use lib.Dec.{leb}
-use lib.ListN.{length, getD, set, take}
+use lib.ListN.{length, getD, set, take, replicate, length-replicate}
 use lib.Seq.{length-take-le, take-suc}
 use borrow.Author.Tests.{leb-true}
 use Rattle.pairs.specs.declared.Pair.{Pair}
 use Rattle.pairs.specs.declared.Flat.{Flat}
 use Rattle.pairs.specs.Pairs.{noPair, pairsOf, Lays, laidOver}
-use Rattle.pairs.proofs.FlatLists.{pairsOf-flatten, pairsOf-take, length-pairsOf, pair-pairsOf}
+use Rattle.pairs.proofs.FlatLists.{pairsOf-flatten, flatten-pairsOf, pairsOf-take, length-pairsOf, pair-pairsOf}
 use Rattle.pairs.proofs.Counts.{copied}
 use Rattle.pairs.proofs.LaidOver.{length-laidOver, laidOver-next}
 
 -- the pairs of a flat form that holds at most 512
 pub held-pairs : (flat : Flat) (ps : List Pair) → Lays flat ps → length ps ≤ 512 → pairsOf (take (2 * length ps) (flat .words)) ≡ ps
 held-pairs flat ps h few = ap pairsOf (h .words-are few) ∙ pairsOf-flatten ps
+
+-- Every flat form lays a list flat, so that what is promised of every list that it lays flat is never empty: of at most 512 pairs those in
+-- front of its words, of more any list of that length.
+pub lays-some : (flat : Flat) → length (flat .words) ≡ 1024 → (ps : List Pair) × Lays flat ps
+lays-some flat long = elim (decLt 512 (flat .count)) [ yes many ↦ (replicate (flat .count) noPair, any many) | no few ↦ (pairsOf front, own (omega arith)) ]
+  where
+    any : 512 < flat .count → Lays flat (replicate (flat .count) noPair)
+    any many =
+        let e = length-replicate (flat .count) noPair in
+        record { count-is = sym e; words-are = λ few. absurd (omega arith) }
+
+    front : List ℕ
+    front = take (2 * flat .count) (flat .words)
+
+    own : flat .count ≤ 512 → Lays flat (pairsOf front)
+    own few =
+        let long-front : length front ≡ 2 * flat .count = length-take-le (2 * flat .count) (flat .words) (omega arith) in
+        let e : length (pairsOf front) ≡ flat .count = length-pairsOf front ∙ omega arith in
+        record { count-is = sym e; words-are = λ h. rw e (sym (flatten-pairsOf (flat .count) front long-front)) }
 
 -- pair i of the words
 abbrev pub wordPair : List ℕ → ℕ → Pair
