@@ -1,12 +1,13 @@
--- Laws of a pair's fields: how long they are, and what a cursor says of the pair before. Assumes nothing.
+-- Laws of a pair's fields: how long they are, and what a flag says of the pair before. Assumes nothing.
 use mathlib.Core.Path.{_≡_, refl, sym}
-use Prim.Native.Nat.{ℕ, _≤_}
+use Prim.Native.Nat.{ℕ, _+_, _≤_}
+use native.Mathlib.Omega.{arith}
 use mathlib.Core.Bool.{Bool, true, false, cond, not, _&&_, _||_, or-false}
 use lib.Dec.{eqb, ltb, lit≤}
+use lib.ListN.{length, length-append}
+use mathlib.Core.List.{List}
 use Rattle.pairs.specs.declared.Pair.{Pair}
-use Rattle.cyclefile.specs.declared.writing.Cursor.{Cursor}
-use Rattle.cyclefile.specs.File.{none, behind, stands, hasGap, hasSize, mapIsWrong, fieldLength}
-use Rattle.cyclefile.specs.InnerPromises.{beforeOf}
+use Rattle.cyclefile.specs.File.{Before, none, behind, stands, gapStands, sizeStands, hasGap, hasSize, mapIsWrong, fieldBytes, fieldLength, pairBytes, pairsBytes, cycleBytes}
 
 pub fieldLength-small : (t : Bool) → fieldLength t ≤ 2
 fieldLength-small true = lit≤ tt
@@ -22,5 +23,19 @@ pub stands-flag : (first : Bool) (q : Pair) (field : Pair → ℕ) (p : Pair) �
 stands-flag true q field p = refl
 stands-flag false q field p = refl
 
-pub stands-of : (c : Cursor) (field : Pair → ℕ) (p : Pair) → stands (beforeOf c) field p ≡ (c .first || not (eqb (field p) (field (c .last))))
-stands-of c field p = stands-flag (c .first) (c .last) field p
+-- ---- how long the parts of a file are
+
+pub length-fieldBytes : (t : Bool) (n : ℕ) → length (fieldBytes t n) ≡ fieldLength t
+length-fieldBytes true n = refl
+length-fieldBytes false n = refl
+
+pub length-pairBytes : (before : Before) (p : Pair) → length (pairBytes before p) ≡ 1 + fieldLength (gapStands before p) + fieldLength (sizeStands before p)
+unfolding pairBytes
+length-pairBytes before p = simp (length-append, length-fieldBytes) (omega arith)
+
+pub pairBytes-small : (before : Before) (p : Pair) → length (pairBytes before p) ≤ 5
+pairBytes-small before p = omega (arith, length-pairBytes before p, fieldLength-small (gapStands before p), fieldLength-small (sizeStands before p))
+
+pub length-cycleBytes : (ps : List Pair) → length (cycleBytes ps) ≡ 2 + length (pairsBytes none ps)
+unfolding cycleBytes
+length-cycleBytes ps = omega arith

@@ -5,8 +5,6 @@ pub mod WholeFile
 pub mod PlainSteps
 pub mod OnePass
 pub mod ReadWords
-pub mod StoredBytes
-pub mod WriteAnswers
 pub mod RoundTrip
 pub mod Worked
 pub mod WrittenBytes

@@ -20,7 +20,7 @@ use Rattle.cyclefile.proofs.OnePair as one
 use Rattle.cyclefile.proofs.PairByPair.{split, ended, length-read}
 use Rattle.cyclefile.proofs.WholeFile.{accepted}
 use Rattle.cyclefile.proofs.WholeFile as whole
-use Rattle.cyclefile.proofs.StoredBytes.{length-pairBytes}
+use Rattle.cyclefile.proofs.Fields.{length-pairBytes}
 
 -- ---- what is written can be read
 

@@ -1,21 +1,14 @@
 -- What the inner functions of this crate promise one another, by the definitions of `File`. None of it stands in the contract of a
 -- function that others call.
 use Prim.Native.Nat.{ℕ, _+_}
-use mathlib.Core.Bool.{Bool, true, false, cond, not, _&&_, _||_}
+use mathlib.Core.Bool.{Bool, cond, not, _&&_, _||_}
 use mathlib.Core.List.{List}
 use lib.Dec.{eqb, ltb}
-use lib.ListN.{length}
 use Rattle.spec.specs.File.{word}
 use Rattle.pairs.specs.declared.Pair.{Pair}
-use Rattle.pairs.specs.Pairs.{noPair}
 use Rattle.cyclefile.specs.declared.reading.steps.Field.{Field}
 use Rattle.cyclefile.specs.declared.reading.steps.Step.{Step}
-use Rattle.cyclefile.specs.declared.writing.Cursor.{Cursor}
-use Rattle.cyclefile.specs.declared.writing.Written.{Written}
-use Rattle.cyclefile.specs.declared.writing.Written.the-variants.{Bytes, Refused as NotWritten}
-use Rattle.cyclefile.specs.File.{Before, none, behind, cycleBytes, writeNumber, PairRead, Taken, Stopped, hasGap, hasSize, fieldLength}
-
--- ---- Reading
+use Rattle.cyclefile.specs.File.{Before, none, behind, PairRead, Taken, Stopped, hasGap, hasSize, fieldLength}
 
 -- the pair before the next one, told by its numbers
 abbrev pub beforeIs : Bool → ℕ → ℕ → Before
@@ -40,21 +33,3 @@ stoppedBy n = record { number = n; at = 0; gap = 0; size = 0 }
 abbrev pub stepOf : ℕ → PairRead → Step
 stepOf i (Taken p taken) = record { number = 0; at = i + taken; gap = p .gap; size = p .size }
 stepOf i (Stopped n) = stoppedBy n
-
--- ---- Writing
-
--- the first pair's map byte stands after the count
-abbrev pub start : Cursor
-start = record { at = 2; first = true; last = noPair }
-
--- the pair before the next one
-abbrev pub beforeOf : Cursor → Before
-beforeOf c = cond (c .first) none (behind (c .last))
-
--- past a pair that takes so many bytes
-abbrev pub past : Cursor → Pair → ℕ → Cursor
-past c p taken = record { at = c .at + taken; first = false; last = p }
-
--- the length of the file, or the refusal
-abbrev pub writeAnswer : ℕ → List Pair → Written
-writeAnswer room ps = cond (eqb (writeNumber room ps) 0) (Bytes (length (cycleBytes ps))) (NotWritten (writeNumber room ps))

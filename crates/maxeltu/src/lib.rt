@@ -3,7 +3,6 @@
 // where it is 7.
 use cyclefile::reading;
 use cyclefile::reading::CycleFile;
-use cyclefile::writing;
 use families::Family;
 use pairs::Flat;
 use pairs::Pair;
@@ -233,5 +232,5 @@ pub extern "C" fn maxeltu_read_cycle(file: &[u8], places: &mut [Pair], count: &m
 pub extern "C" fn maxeltu_write_cycle(pairs: &[Pair], file: &mut [u8], written: &mut u32) -> u32
     ensures { λ r. ⌜ Writes (now (pairs .entry)) (now (file .entry)) (now (written .entry)) r (now (file .exit)) (now (written .exit)) ⌝ }
 {
-    writing::write_unpacked(pairs::unpack(pairs), file, written)
+    writer::write_unpacked(pairs::unpack(pairs), file, written)
 }

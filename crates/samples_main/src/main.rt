@@ -13,19 +13,19 @@ use spec::Spec;
 use spec::SpecRead;
 
 // "Written (sizes), (gaps), (B, R), (L, P)."
-fn sample(sizes: [u16; 2], gaps: [u16; 2], supply: [u16; 2], demand: [u16; 2]) -> Spec {
+fn sample(dmin: u16, dmax: u16, smin: u16, smax: u16, b: u16, r: u16, l: u16, p: u16) -> Spec {
     Spec {
-        dmin: sizes[0],
-        dmax: sizes[1],
-        smin: gaps[0],
-        smax: gaps[1],
+        dmin,
+        dmax,
+        smin,
+        smax,
         supply: Rate::Present {
-            records: supply[0],
-            minutes: supply[1],
+            records: b,
+            minutes: r,
         },
         demand: Rate::Present {
-            records: demand[0],
-            minutes: demand[1],
+            records: l,
+            minutes: p,
         },
         duration: Range::Absent,
     }
@@ -155,22 +155,25 @@ fn cycle(s: Spec, words: &[u16]) {
 
 fn sample_a() {
     text(b"A\n");
-    let s = sample([3, 10], [45, 55], [29, 220], [17, 158]);
+    let s = sample(3, 10, 45, 55, 29, 220, 17, 158);
     minimum_demand(s, 2);
     minimum_demand(s, 3);
     test(s);
     even_plan(s);
+}
+
+fn sample_a_with_28() {
     text(b"A with B = 28\n");
-    let less = sample([3, 10], [45, 55], [28, 220], [17, 158]);
+    let less = sample(3, 10, 45, 55, 28, 220, 17, 158);
     test(less);
     even_plan(less);
 }
 
 fn sample_b() {
     text(b"B\n");
-    test(sample([2, 3], [5, 5], [16, 26], [10, 20]));
+    test(sample(2, 3, 5, 5, 16, 26, 10, 20));
     text(b"B with B = 14\n");
-    even_plan(sample([2, 3], [5, 5], [14, 26], [10, 20]));
+    even_plan(sample(2, 3, 5, 5, 14, 26, 10, 20));
 }
 
 // B with 15, from its file, and the cycles of G.
@@ -189,27 +192,32 @@ fn sample_g() {
     cycle(s, &[5, 2, 5, 2, 5, 2, 5, 3]);
 }
 
-fn samples_c_to_f() {
+fn samples_c_and_d() {
     text(b"C\n");
-    let c = sample([5, 6], [45, 46], [10, 79], [17, 159]);
+    let c = sample(5, 6, 45, 46, 10, 79, 17, 159);
     maximum_supply(c, 2);
     test(c);
     even_plan(c);
     text(b"D\n");
-    let d = sample([3, 5], [35, 46], [10, 79], [17, 158]);
+    let d = sample(3, 5, 35, 46, 10, 79, 17, 158);
     test(d);
     even_plan(d);
+}
+
+fn samples_e_and_f() {
     text(b"E\n");
-    test(sample([3, 10], [45, 80], [10, 79], [17, 159]));
+    test(sample(3, 10, 45, 80, 10, 79, 17, 159));
     text(b"F\n");
-    let f = sample([5, 5], [4, 4], [10, 10], [5, 20]);
+    let f = sample(5, 5, 4, 4, 10, 10, 5, 20);
     consistency(f);
     test(f);
 }
 
 fn main() {
     sample_a();
+    sample_a_with_28();
     sample_b();
     sample_g();
-    samples_c_to_f();
+    samples_c_and_d();
+    samples_e_and_f();
 }

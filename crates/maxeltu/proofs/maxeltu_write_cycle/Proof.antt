@@ -49,10 +49,10 @@ use Rattle.pairs.proofs.unpack.Symbol as unpack-def
 use Rattle.pairs.proofs.unpack.Symbol.{name as #pairs·unpack}
 use Rattle.pairs.proofs.unpack.Met as unpack-thm
 use Rattle.cyclefile.specs.File.{Writes}
-use Rattle.cyclefile.proofs.writing.write_unpacked as write
-use Rattle.cyclefile.proofs.writing.write_unpacked.Symbol as write-def
-use Rattle.cyclefile.proofs.writing.write_unpacked.Symbol.{name as #cyclefile·write-unpacked}
-use Rattle.cyclefile.proofs.writing.write_unpacked.Met as write-thm
+use Rattle.writer.proofs.write_unpacked as write
+use Rattle.writer.proofs.write_unpacked.Symbol as write-def
+use Rattle.writer.proofs.write_unpacked.Symbol.{name as #writer·write-unpacked}
+use Rattle.writer.proofs.write_unpacked.Met as write-thm
 use Rattle.maxeltu.proofs.maxeltu_write_cycle.Key.{name as #maxeltu·maxeltu-write-cycle}
 use Rattle.maxeltu.proofs.maxeltu_write_cycle as self
 use Rattle.maxeltu.proofs.maxeltu_write_cycle.Statement as stated
@@ -120,7 +120,7 @@ module _ {M : Type 1} (𝓤 : URA M) (H : Heap 𝓤) (A : Atoms 𝓤) (W : Given
       -- [true; the result; the last bytes; the last length; what pairs owns]
       move ! (3 ∷ 0 ∷ []) $ fjoin ! $ move ! (2 ∷ 0 ∷ []) $ fjoin ! $ move ! (2 ∷ 0 ∷ []) $ fjoin ! $ done !
 
-  module _ (C : Calls 𝓤 H) (Λ : Loops 𝓤 H) (fm : FmC 𝓤 H (W .laws) C) (known-unpack : Triple 𝓤 (C #pairs·unpack) (Unpack 𝓤 H A mem run)) (known-write : Triple 𝓤 (C #cyclefile·write-unpacked) (Write 𝓤 H A mem run)) where
+  module _ (C : Calls 𝓤 H) (Λ : Loops 𝓤 H) (fm : FmC 𝓤 H (W .laws) C) (known-unpack : Triple 𝓤 (C #pairs·unpack) (Unpack 𝓤 H A mem run)) (known-write : Triple 𝓤 (C #writer·write-unpacked) (Write 𝓤 H A mem run)) where
     walk : ent 𝓤 (onEntry 𝓤 H A self.signature (κ, (κ₁, (κ₂, tt))) (q, (q₁, (q₂, tt))) x at) (WpFn 𝓤 H C Λ code.function (sv ∷ dv ∷ vptr b₂ o₂ ∷ []) Post)
     walk =
         qed W ((‵ (flft κ q) ⊛ ‵ (flft κ₁ q₁) ⊛ ‵ (flft κ₂ q₂) ⊛ ‵ ftrue) ∷ ‵ (owns (ShrSlice (named 0) κ P.the-row ∷ MutSlice (named 1) κ₁ u8 ∷ MutRef (named 2) κ₂ u32 ∷ []) x at) ∷ []) ∵ enter ! C Λ code.function (sv ∷ dv ∷ vptr b₂ o₂ ∷ []) _ $
@@ -150,7 +150,7 @@ module _ {M : Type 1} (𝓤 : URA M) (H : Heap 𝓤) (A : Atoms 𝓤) (W : Given
         move ! (22 ∷ 23 ∷ []) $ free1 ! $ move ! (20 ∷ 21 ∷ []) $ free1 ! $ move ! (18 ∷ 19 ∷ []) $ free1 ! $ move ! (16 ∷ 17 ∷ []) $ free1 ! $ move ! (14 ∷ 15 ∷ []) $ free1 ! $ move ! (12 ∷ 13 ∷ []) $ free1 ! $ move ! (10 ∷ 11 ∷ []) $ free1 ! $ move ! (8 ∷ 9 ∷ []) $ free1 ! $ free0 ! $
         keep ! (0 ∷ 1 ∷ 4 ∷ 2 ∷ 6 ∷ 7 ∷ []) $ by ! (exits r v′ (ls .1 .0) (ls .1 .1 .0) (said ps (unpacked-holds ps f flat)) l))))))))))))))))
 
-module _ {M : Type 1} (𝓤 : URA M) (H : Heap 𝓤) (A : Atoms 𝓤) (W : Given 𝓤 H A) (mem : Memory → SProp 𝓤) (run : Routine → Fun 𝓤) (𝓣 : Tables 𝓤 H) (known-unpack : Triple 𝓤 (𝓣 .C #pairs·unpack) (Unpack 𝓤 H A mem run)) (known-write : Triple 𝓤 (𝓣 .C #cyclefile·write-unpacked) (Write 𝓤 H A mem run)) where
+module _ {M : Type 1} (𝓤 : URA M) (H : Heap 𝓤) (A : Atoms 𝓤) (W : Given 𝓤 H A) (mem : Memory → SProp 𝓤) (run : Routine → Fun 𝓤) (𝓣 : Tables 𝓤 H) (known-unpack : Triple 𝓤 (𝓣 .C #pairs·unpack) (Unpack 𝓤 H A mem run)) (known-write : Triple 𝓤 (𝓣 .C #writer·write-unpacked) (Write 𝓤 H A mem run)) where
   walks : Walks 𝓤 H A self.ended stayed (WpFn 𝓤 H (𝓣 .C) (𝓣 .Λ) code.function) (self.clauses 𝓤 H A mem run)
   walks = walked 𝓤 H A self.ended stayed (self.clauses 𝓤 H A mem run) (WpFn 𝓤 H (𝓣 .C) (𝓣 .Λ) code.function) (λ κs. (slice-vals, (slice-vals, (ptr-vals, tt)))) (λ κs. (shr-slice-tells (named 0) (κs .0) P.the-row, (mut-slice-tells (named 1) (κs .1 .0) u8, (mut-tells (named 2) (κs .1 .1 .0) u32, tt))))
       (λ κs qs bounds a _ are. via 𝓤 _ (fst∗ 𝓤 _ (emp 𝓤)) (walk 𝓤 H A W mem run (κs .0) (κs .1 .0) (κs .1 .1 .0) (qs .0) (qs .1 .0) (qs .1 .1 .0) (a .0 .ptr .0) (a .0 .ptr .1) (a .0 .name) (a .0 .now) (a .1 .0 .ptr .0) (a .1 .0 .ptr .1) (a .1 .0 .name) (a .1 .0 .now) (a .1 .1 .0 .ptr .0) (a .1 .1 .0 .ptr .1) (a .1 .1 .0 .name) (a .1 .1 .0 .now) (are .0 .0 .1) (are .1 .0 .0 .1) (𝓣 .C) (𝓣 .Λ) (fmOf 𝓤 H (W .laws) 𝓣) known-unpack known-write))
@@ -165,4 +165,4 @@ maxeltu-write-cycle-spec 𝓤 H 𝓜 𝓖 𝓡 =
     (tables 𝓤 H 𝓜 𝓡 code.env .C) (tables 𝓤 H 𝓜 𝓡 code.env .Λ) #maxeltu·maxeltu-write-cycle code.function (code.unfolded 𝓤 H 𝓜 𝓡)
     (meets 𝓤 H (𝓖 .A) (givenOf 𝓤 H 𝓜 𝓖) (𝓜 .mem) (𝓡 .run) (tablesOf 𝓤 H 𝓜 (tables 𝓤 H 𝓜 𝓡 code.env))
     (cited 𝓤 H (Unpack 𝓤 H (𝓖 .A) (𝓜 .mem) (𝓡 .run)) 𝓜 𝓡 code.env #pairs·unpack unpack-def.routine code.calls-pairs·unpack (unpack-thm.met 𝓤 H 𝓜 𝓖 𝓡))
-    (cited 𝓤 H (Write 𝓤 H (𝓖 .A) (𝓜 .mem) (𝓡 .run)) 𝓜 𝓡 code.env #cyclefile·write-unpacked write-def.routine code.calls-cyclefile·writing·write-unpacked (write-thm.met 𝓤 H 𝓜 𝓖 𝓡)))
+    (cited 𝓤 H (Write 𝓤 H (𝓖 .A) (𝓜 .mem) (𝓡 .run)) 𝓜 𝓡 code.env #writer·write-unpacked write-def.routine code.calls-writer·write-unpacked (write-thm.met 𝓤 H 𝓜 𝓖 𝓡)))

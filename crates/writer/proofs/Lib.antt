@@ -1,0 +1,3 @@
+pub mod Cursors
+pub mod StoredBytes
+pub mod WriteAnswers
