@@ -60,14 +60,14 @@ enough-of-two a b n h = enough-by a b n (ltb a n) refl h
 
 -- ---- a file that reads as pairs
 
-pub record Accepted (places : ℕ) (file : List ℕ) (ps : List Pair) : Type 0 where
+pub record WholeRead (places : ℕ) (file : List ℕ) (ps : List Pair) : Type 0 where
   pub long : 2 ≤ length file
   pub counted : countIn (word file 0) ≡ true
   pub room : word file 0 ≤ places
   pub reads : readPairs (word file 0) none (drop 2 file) ≡ pairs ps
 
 accepted-by : (places : ℕ) (file : List ℕ) (ps : List Pair) → readCycle places file ≡ pairs ps → (short counted few : Bool)
-    → ltb (length file) 2 ≡ short → countIn (word file 0) ≡ counted → ltb places (word file 0) ≡ few → Accepted places file ps
+    → ltb (length file) 2 ≡ short → countIn (word file 0) ≡ counted → ltb places (word file 0) ≡ few → WholeRead places file ps
 accepted-by places file ps h true counted few e₁ e₂ e₃ = absurd (let k = no-count places file (ltb-true _ _ e₁) .0 in let z : _≡_ {A = ℕ} 0 1 = cc in omega arith)
 accepted-by places file ps h false false few e₁ e₂ e₃ = absurd (let k = bad-count places file (ltb-false _ _ e₁) e₂ .0 in let z : _≡_ {A = ℕ} 0 1 = cc in omega arith)
 accepted-by places file ps h false true true e₁ e₂ e₃ = absurd (let k = few-places places file (ltb-false _ _ e₁) e₂ (ltb-true _ _ e₃) .0 in let z : _≡_ {A = ℕ} 0 1 = cc in omega arith)
@@ -75,7 +75,7 @@ accepted-by places file ps h false true false e₁ e₂ e₃ =
     let k = pair-by-pair places file (ltb-false _ _ e₁) e₂ (ltb-false _ _ e₃) .0 in
     record { long = ltb-false _ _ e₁; counted = e₂; room = ltb-false _ _ e₃; reads = (cc) }
 
-pub accepted : (places : ℕ) (file : List ℕ) (ps : List Pair) → readCycle places file ≡ pairs ps → Accepted places file ps
+pub accepted : (places : ℕ) (file : List ℕ) (ps : List Pair) → readCycle places file ≡ pairs ps → WholeRead places file ps
 accepted places file ps h = accepted-by places file ps h (ltb (length file) 2) (countIn (word file 0)) (ltb places (word file 0)) refl refl refl
 
 -- ---- what the answer tells
