@@ -7,7 +7,6 @@ use Rattle.spec.specs.declared.Spec.{Spec}
 use Rattle.spec.specs.Limits.{IsAccepted}
 use Rattle.spec.proofs.GoingOn.{goes-on, went-on}
 use Rattle.consistency.specs.declared.Condition.the-variants.{BoundsFitRates, FewestReportsFitBudget, EnoughReportsForDemand, SupplyCoversDemand}
-use Rattle.consistency.specs.declared.Consistency.{Consistency}
 use Rattle.consistency.specs.declared.Consistency.the-variants.{Consistent, Inconsistent, Refused}
 use Rattle.consistency.specs.Consistency.{boundsFitRates, fewestReportsFitBudget, enoughReportsForDemand, supplyCoversDemand, conditionsOf, consistencyOf}
 

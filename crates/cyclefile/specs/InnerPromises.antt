@@ -5,7 +5,6 @@ use mathlib.Core.Bool.{Bool, cond, not, _&&_, _||_}
 use mathlib.Core.List.{List}
 use lib.Dec.{eqb, ltb}
 use Rattle.spec.specs.File.{word}
-use Rattle.pairs.specs.declared.Pair.{Pair}
 use Rattle.cyclefile.specs.declared.reading.steps.Field.{Field}
 use Rattle.cyclefile.specs.declared.reading.steps.Step.{Step}
 use Rattle.cyclefile.specs.File.{Before, none, behind, PairRead, Taken, Stopped, hasGap, hasSize, fieldLength}

@@ -4,13 +4,11 @@ use Prim.Native.Nat.{ℕ, _+_, _*_, _/_, _≤_, _<_}
 use native.Mathlib.Omega.{arith}
 use native.Mathlib.Nat.{le-trans, le-div-iff-mul-le, div-lt-iff-lt-mul, lt-div-mul-add, div-mul-le-self, mul-le-mul-left, mul-le-mul-right, mul-comm, add-mul}
 use mathlib.Core.Path.{_≡_, refl}
-use mathlib.Core.Logic.{⊎-elim}
 use mathlib.Core.Bool.{Bool, true, false, and-eq-true-iff}
 use borrow.Author.Tests.{leb-true, le-leb}
 use Rattle.spec.specs.declared.Rate.{Rate}
 use Rattle.spec.specs.declared.Rate.the-variants.{Absent, Present}
 use Rattle.spec.specs.declared.Spec.{Spec}
-use Rattle.numbers.proofs.Cases.{lt-cases}
 use Rattle.even.specs.Even.{countAt, totalOf, demandFits, supplyFits, fits}
 use Rattle.even.specs.Search.{nextGap}
 use Rattle.numbers.proofs.Ceilings.{ceil-falls}

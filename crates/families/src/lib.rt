@@ -9,7 +9,7 @@ use spec::Rates;
 use spec::Spec;
 ghost use mathlib.Core.Path.{_≡_};
 ghost use mathlib.Core.Bool.{true};
-ghost use Prim.Native.Nat.{_*_, _≤_, _<_};
+ghost use Prim.Native.Nat.{_*_, _<_};
 ghost use Rattle.spec.specs.declared.BothRates.the-variants.{Both};
 ghost use Rattle.spec.specs.Limits.{IsAccepted};
 ghost use Rattle.spec.specs.Rates.{bothRates};

@@ -1,7 +1,7 @@
 -- The theorems of specs/Statements.antt, and what the demands' page says of the test.
 use Prim.Native.Nat.{ℕ, _≤_}
 use native.Mathlib.Omega.{arith}
-use mathlib.Core.Path.{_≡_, refl, sym, _∙_}
+use mathlib.Core.Path.{_≡_, refl, _∙_}
 use mathlib.Core.Logic.{⊎-elim}
 use mathlib.Core.Bool.{true}
 use borrow.Author.Tests.{le-leb}

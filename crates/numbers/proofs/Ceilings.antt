@@ -1,5 +1,5 @@
 -- Division rounded up: n is below ⌈a/b⌉ exactly when n × b is below a.
-use Prim.Native.Nat.{ℕ, suc, _+_, _-_, _*_, _/_, _≤_, _<_}
+use Prim.Native.Nat.{ℕ, _+_, _-_, _*_, _/_, _≤_, _<_}
 use native.Mathlib.Omega.{arith}
 use native.Mathlib.Nat.{le-div-iff-mul-le, add-mul, one-mul, div-le-self, div-zero, div-eq-of-lt-le, div-mul-le-self, lt-div-mul-add, mul-le-mul-left, mul-le-mul-right, mul-one, suc-mul, mul-add-div-right, add-assoc, add-zero, div-eq-of-lt, mul-div-cancel}
 use mathlib.Core.Path.{_≡_}

@@ -1,8 +1,8 @@
 -- Document 01, "Samples": those marked ★ as one table, and one proof that the definitions give every value that it prints.
-use Prim.Native.Nat.{ℕ, zero, suc, _+_, _*_}
+use Prim.Native.Nat.{ℕ, _+_, _*_}
 use mathlib.Core.Path.{_≡_, refl}
 use mathlib.Core.List.{List, [], _∷_}
-use mathlib.Core.Bool.{Bool, true, false, cond, _&&_}
+use mathlib.Core.Bool.{Bool, true, false, _&&_}
 use lib.Dec.{eqb}
 use Rattle.spec.specs.declared.Rate.{Rate}
 use Rattle.spec.specs.declared.Rate.the-variants.{Absent, Present}
@@ -15,7 +15,7 @@ use Rattle.spec.specs.Limits.{specNumber, ifAccepted, limits, order, rateLimits
 use Rattle.spec.specs.File.{readSpec}
 use Rattle.spec.specs.Rates.{ratesFrom, bothRates, started}
 use Rattle.numbers.specs.Numbers.{ceil, all}
-use Rattle.schedule.specs.Schedules.{Schedule, sum, minute, heldFrom, stretch}
+use Rattle.schedule.specs.Schedules.{sum, minute, heldFrom, stretch}
 use Rattle.plan.specs.declared.Plan.{Plan}
 use Rattle.plan.specs.declared.Reported.{Reported}
 use Rattle.plan.specs.declared.Reported.the-variants.{At, Refused as NotReported}

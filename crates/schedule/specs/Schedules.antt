@@ -1,7 +1,6 @@
 -- Document 01, "The specification", second paragraph: "A schedule is endless. Report 0 is at minute 0. A stretch of n minutes
 -- from a (a at least 0) is minutes a to a + n − 1. It holds, summed, the sizes of the reports at those minutes."
-use Prim.Native.Nat.{ℕ, zero, suc, _+_, _≤_}
-use mathlib.Core.Path.{_≡_}
+use Prim.Native.Nat.{ℕ, zero, suc, _+_}
 use mathlib.Core.Bool.{true, false, cond, _&&_}
 use lib.Dec.{leb, ltb}
 

@@ -1,14 +1,11 @@
 // A specification: its numbers with two rates and a range of durations that may be absent, the limits and the order of its values,
-// and its file (document 01, "The specification"). Refusals 1 to 4. What the numbers mean for a schedule is left to the
+// and its file (document 01, "The specification"). Refusals 1 to 5. What the numbers mean for a schedule is left to the
 // crates above; `refusal` names the numbers of every refusal.
 pub mod refusal;
 
 ghost use mathlib.Core.Path.{_≡_};
-ghost use mathlib.Core.List.{List};
-ghost use mathlib.Core.Bool.{Bool};
 ghost use Prim.Native.Nat.{_+_, _*_, _<_, _≤_};
-ghost use lib.Dec.{eqb};
-ghost use lib.ListN.{length, getD};
+ghost use lib.ListN.{length};
 ghost use Rattle.spec.specs.declared.Rate.the-variants.{Absent, Present};
 ghost use Rattle.spec.specs.declared.Range.the-variants.{Absent as NoRange, Present as RangeOf};
 ghost use Rattle.spec.specs.Limits.{between, boundsLimits, rateLimits, rangeLimits, limits, rangeOrder, order, specNumber, sizeAllowed, gapAllowed};

@@ -1,5 +1,4 @@
 -- By whether the demand rate is there; dmax and smin are no 0 in an accepted specification.
-use native.Mathlib.Omega.{arith}
 use Rattle.spec.proofs.Facts.{facts}
 use Rattle.consistency.specs.Consistency.{whereRate, enoughReportsForDemand}
 use borrow.Author.Needs.{needs}

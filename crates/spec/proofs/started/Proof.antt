@@ -2,7 +2,7 @@
 use borrow.Author.Needs.{needs}
 use mathlib.Core.Path.{_∙_, sym, ap}
 use Rattle.spec.specs.declared.BothRates.the-variants.{Refused}
-use Rattle.spec.specs.Rates.{started, bothRates}
+use Rattle.spec.specs.Rates.{started}
 use Rattle.spec.proofs.GoingOn.{goes-on, stops}
 use Rattle.spec.proofs.started.Statement.{statement}
 use Rattle.spec.proofs.started.Tie as tie
