@@ -24,6 +24,7 @@ pub record Answer : Type 0 where
   pub number : ℕ
   pub values : List ℕ
 
+-- an answer with its values, and one with the number of its refusal alone
 abbrev pub yields : List ℕ → Answer
 yields values = record { number = 0; values = values }
 

@@ -7,8 +7,27 @@ use Rattle.spec.specs.declared.Spec.{Spec}
 use Rattle.spec.specs.Limits.{IsAccepted}
 use Rattle.spec.proofs.GoingOn.{goes-on, went-on}
 use Rattle.consistency.specs.declared.Condition.the-variants.{BoundsFitRates, FewestReportsFitBudget, EnoughReportsForDemand, SupplyCoversDemand}
+use Rattle.consistency.specs.declared.Consistency.{Consistency}
 use Rattle.consistency.specs.declared.Consistency.the-variants.{Consistent, Inconsistent, Refused}
 use Rattle.consistency.specs.Consistency.{boundsFitRates, fewestReportsFitBudget, enoughReportsForDemand, supplyCoversDemand, conditionsOf, consistencyOf}
+
+-- what the conditions give: consistent, where condition 5 holds, or a condition that fails
+Judged : Consistency → Bool → Type 0
+Judged Consistent fifth = fifth ≡ true
+Judged (Inconsistent c) fifth = Unit {0}
+Judged (Refused n) fifth = ⊥
+
+conditions-judged : (s : Spec) → Judged (conditionsOf s) (enoughReportsForDemand s)
+unfolding conditionsOf Judged
+conditions-judged s = pick (boundsFitRates s) (fewestReportsFitBudget s) (enoughReportsForDemand s) (supplyCoversDemand s)
+  where
+    pick : (a b c d : Bool)
+        → Judged (cond a (cond b (cond c (cond d Consistent (Inconsistent SupplyCoversDemand)) (Inconsistent EnoughReportsForDemand)) (Inconsistent FewestReportsFitBudget)) (Inconsistent BoundsFitRates)) c
+    pick true true true true = refl
+    pick true true true false = tt
+    pick true true false d = tt
+    pick true false c d = tt
+    pick false b c d = tt
 
 both-told : (s : Spec) → consistencyOf s ≡ Consistent → IsAccepted s × (conditionsOf s ≡ Consistent)
 unfolding consistencyOf
@@ -18,32 +37,9 @@ pub consistent-accepted : (s : Spec) → consistencyOf s ≡ Consistent → IsAc
 consistent-accepted s e = both-told s e .0
 
 pub fifth-holds : (s : Spec) → consistencyOf s ≡ Consistent → enoughReportsForDemand s ≡ true
-unfolding conditionsOf
-fifth-holds s e = pick (boundsFitRates s) (fewestReportsFitBudget s) (enoughReportsForDemand s) (supplyCoversDemand s) (both-told s e .1)
-  where
-    pick : (a b c d : Bool)
-        → cond a (cond b (cond c (cond d Consistent (Inconsistent SupplyCoversDemand)) (Inconsistent EnoughReportsForDemand)) (Inconsistent FewestReportsFitBudget)) (Inconsistent BoundsFitRates)
-        ≡ Consistent
-        → c ≡ true
-    pick true true true d x = refl
-    pick true true false d x = absurd (let z : _≡_ {A = ℕ} 0 1 = cc in omega arith)
-    pick true false c d x = absurd (let z : _≡_ {A = ℕ} 0 1 = cc in omega arith)
-    pick false b c d x = absurd (let z : _≡_ {A = ℕ} 0 1 = cc in omega arith)
-
-conditions-no-number : (s : Spec) (n : ℕ) → conditionsOf s ≡ Refused n → ⊥
-unfolding conditionsOf
-conditions-no-number s n e = pick (boundsFitRates s) (fewestReportsFitBudget s) (enoughReportsForDemand s) (supplyCoversDemand s) e
-  where
-    pick : (a b c d : Bool)
-        → cond a (cond b (cond c (cond d Consistent (Inconsistent SupplyCoversDemand)) (Inconsistent EnoughReportsForDemand)) (Inconsistent FewestReportsFitBudget)) (Inconsistent BoundsFitRates)
-        ≡ Refused n
-        → ⊥
-    pick true true true true x = let z : _≡_ {A = ℕ} 0 1 = cc in omega arith
-    pick true true true false x = let z : _≡_ {A = ℕ} 0 1 = cc in omega arith
-    pick true true false d x = let z : _≡_ {A = ℕ} 0 1 = cc in omega arith
-    pick true false c d x = let z : _≡_ {A = ℕ} 0 1 = cc in omega arith
-    pick false b c d x = let z : _≡_ {A = ℕ} 0 1 = cc in omega arith
+unfolding Judged
+fifth-holds s e = rw (both-told s e .1) at (conditions-judged s)
 
 pub accepted-no-number : (s : Spec) → IsAccepted s → (n : ℕ) → consistencyOf s ≡ Refused n → ⊥
-unfolding consistencyOf
-accepted-no-number s a n e = conditions-no-number s n (sym (goes-on s (conditionsOf s) Refused a) ∙ e)
+unfolding consistencyOf Judged
+accepted-no-number s a n e = let x = sym (goes-on s (conditionsOf s) Refused a) ∙ e in rw x at (conditions-judged s)

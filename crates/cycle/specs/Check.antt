@@ -18,9 +18,11 @@ use Rattle.pairs.specs.Pairs.{countIn}
 use Rattle.schedule.specs.Schedules.{stretch}
 use Rattle.cycle.specs.Cycles.{pairGap, pairSize, cycleRun, round}
 
+-- not "13 some gap out of range"
 unfoldable pub gapsAllowed : Spec → List Pair → Bool
 gapsAllowed spec ps = all (λ j. gapAllowed spec (pairGap ps j)) (length ps)
 
+-- not "14 some size"
 unfoldable pub sizesAllowed : Spec → List Pair → Bool
 sizesAllowed spec ps = all (λ j. sizeAllowed spec (pairSize ps j)) (length ps)
 
@@ -34,7 +36,7 @@ unfoldable pub demandMet : Rate → List Pair → Bool
 demandMet Absent ps = true
 demandMet (Present l p) ps = all (λ a. leb l (stretch (cycleRun ps) a p)) (round ps)
 
--- the first of 12 to 16 that applies, or 0; after 3 and 4; after 1 to 4, given a specification's file
+-- the first of 12 to 16 that applies, or 0
 unfoldable pub cycleNumber : Spec → List Pair → ℕ
 cycleNumber spec ps =
     cond (countIn (length ps))
@@ -47,8 +49,10 @@ cycleNumber spec ps =
     13)
     12
 
+-- "Every operation given a specification as numbers begins with 3 and 4"
 unfoldable pub checkNumber : Spec → List Pair → ℕ
 checkNumber spec ps = ifAccepted spec (cycleNumber spec ps) (λ n. n)
 
+-- the same given a specification's file: 1 to 4 first
 unfoldable pub checkFileNumber : SpecRead → List Pair → ℕ
 checkFileNumber read ps = ifRead read (λ spec. checkNumber spec ps) (λ n. n)

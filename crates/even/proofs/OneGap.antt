@@ -1,27 +1,21 @@
 -- Schedules of one gap g: report i is at minute i × g, so ⌈t/g⌉ reports come before minute t. A stretch of
 -- w minutes has from w / g rounded down to w / g rounded up reports, and what it holds is the sizes of a block of them.
-use Prim.Native.Nat.{ℕ, zero, suc, _+_, _-_, _*_, _/_, _<_}
+use Prim.Native.Nat.{ℕ, _+_, _-_, _*_, _/_, _<_}
 use native.Mathlib.Omega.{arith}
-use native.Mathlib.Nat.{suc-mul, zero-mul}
-use native.Mathlib.Numerals.{add-one}
 use mathlib.Core.Path.{_≡_}
 use mathlib.Core.Logic.{_↔_}
 use Rattle.numbers.specs.Numbers.{ceil}
 use Rattle.numbers.proofs.Ceilings.{lt-ceil-iff, ceil-le-self, ceil-times, ceil-times-add, ceil-after, ceil-after-add}
-use Rattle.schedule.specs.Schedules.{sum, minute, stretch}
-use Rattle.schedule.proofs.Sums.{sum-none, sum-more, block}
+use Rattle.schedule.specs.Schedules.{minute, stretch}
+use Rattle.schedule.proofs.Sums.{sum-const, block}
 use Rattle.schedule.proofs.Stretches.{stretch-block}
 use Rattle.even.specs.Even.{evenly}
-
-sum-same-gap : (g n : ℕ) → sum (λ i. g) n ≡ n * g
-sum-same-gap g zero = rw (sum-none (λ i. g), zero-mul)
-sum-same-gap g (suc n) = rw (← add-one n, sum-more (λ i. g) n, sum-same-gap g n, add-one, suc-mul)
 
 module _ (g : ℕ) (pos : 0 < g) where
   module _ (f : ℕ → ℕ) where
     minute-even : (i : ℕ) → minute (evenly g f) i ≡ i * g
     unfolding minute
-    minute-even i = sum-same-gap g i
+    minute-even i = sum-const g i
 
     before-iff : (t i : ℕ) → (minute (evenly g f) i < t) ↔ (i < ceil t g)
     before-iff t i = let h = lt-ceil-iff t g i pos in rw (minute-even i) (h .1, h .0)

@@ -48,6 +48,7 @@ fn schedule_exists(f: Family, s: Spec, q: Rates, k: u32) -> bool
     }
 }
 
+// A well-formed plan, whose period and total fit 32 bits.
 fn well_formed(k: u32, period: u64, total: u64) -> Plan
     requires { ⌜ (period < 4294967296) × (total < 4294967296) ⌝ }
     ensures { λ r. ⌜ r ≡ planOf WellFormed k period total ⌝ }
@@ -60,6 +61,7 @@ fn well_formed(k: u32, period: u64, total: u64) -> Plan
     }
 }
 
+// The plan of the family's schedule with k reports.
 fn plan_for(f: Family, s: Spec, q: Rates, k: u32) -> Plan
     requires { ⌜ (IsAccepted s) × (bothRates s ≡ Both q) × (exists f s q k ≡ true) ⌝ }
     ensures { λ r. ⌜ r ≡ planFor f s q k ⌝ }

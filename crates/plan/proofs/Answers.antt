@@ -10,8 +10,7 @@ use Rattle.plan.specs.declared.Plan.{Plan}
 use Rattle.plan.specs.declared.Reported.the-variants.{At, Refused}
 use Rattle.plan.specs.declared.Counted.the-variants.{Count, Refused as NotCounted}
 use Rattle.plan.specs.Plans.{proper, run, kindRun, wellGap, wellSize, evenFirst, evenSize}
-use Rattle.plan.specs.Reports.{reportOf}
-use Rattle.plan.specs.Counts.{countOf}
+use Rattle.plan.specs.Reports.{reportOf, countOf}
 use Rattle.plan.proofs.Proper.{proper-bounds}
 use Rattle.plan.proofs.EvenSizes.{even-sum}
 

@@ -2,7 +2,6 @@ pub mod Proper
 pub mod Periods
 pub mod WellFormed
 pub mod EvenSizes
-pub mod Counting
 pub mod Minutes
 pub mod Extremes
 pub mod Runs

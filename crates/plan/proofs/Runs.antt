@@ -6,9 +6,9 @@ use native.Mathlib.Nat.{add-zero, mod-lt, mul-comm, le-mul-of-pos-right, le-tran
 use mathlib.Core.Path.{_≡_, refl, sym, _∙_}
 use mathlib.Core.Bool.{true}
 use borrow.Author.Tests.{lt-leb, eqb-true}
-use Rattle.schedule.specs.Schedules.{sum, minute, stretch}
+use Rattle.schedule.specs.Schedules.{sum, minute, stretch, reportsBefore}
 use Rattle.schedule.proofs.Sums.{sum-same, sum-block, block-most}
-use Rattle.schedule.proofs.Before.{before, before-le, stretch-before, stretch-longer}
+use Rattle.schedule.proofs.Before.{before-le, stretch-before, stretch-longer}
 use Rattle.schedule.proofs.Repeats.{stretch-round, stretch-first, stretch-whole}
 use Rattle.plan.specs.declared.Kind.{Kind}
 use Rattle.plan.specs.declared.Kind.the-variants.{WellFormed, Even}
@@ -101,10 +101,10 @@ module _ (p : Plan) (ok : proper p ≡ true) where
   pub held-most : (x : ℕ) → stretch (run p) 0 x ≤ x * 1000
   unfolding run
   held-most x =
-      let n : before (run p) run-later (0 + x) - before (run p) run-later 0 ≤ x = omega (arith, before-le (run p) run-later (0 + x)) in
+      let n : reportsBefore (run p) (0 + x) - reportsBefore (run p) 0 ≤ x = omega (arith, before-le (run p) run-later (0 + x)) in
       let sizes = kind-most k π δ (known .some) (p .kind) 1000 (omega (arith, known .light, mul-comm k 1000)) in
       rw (stretch-before (run p) run-later 0 x)
-      (le-trans (block-most (run p .size) 1000 sizes (before (run p) run-later 0) (before (run p) run-later (0 + x) - before (run p) run-later 0)) (mul-le-mul-right 1000 n))
+      (le-trans (block-most (run p .size) 1000 sizes (reportsBefore (run p) 0) (reportsBefore (run p) (0 + x) - reportsBefore (run p) 0)) (mul-le-mul-right 1000 n))
 
   -- of the well-formed kind the fullest stretches are the first, and the thinnest end with a period
   module _ (well : p .kind ≡ WellFormed) where

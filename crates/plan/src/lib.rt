@@ -5,10 +5,9 @@ use spec::refusal;
 ghost use mathlib.Core.Path.{_≡_};
 ghost use mathlib.Core.Bool.{true};
 ghost use Prim.Native.Nat.{_+_, _-_, _*_, _≤_, _<_, _^_};
-ghost use Rattle.schedule.specs.Schedules.{sum, stretch};
+ghost use Rattle.schedule.specs.Schedules.{sum, stretch, reportsBefore};
 ghost use Rattle.plan.specs.Plans.{proper, run, wellGap, wellSize, evenFirst, evenSize};
-ghost use Rattle.plan.specs.Reports.{reportOf};
-ghost use Rattle.plan.specs.Counts.{reportsBefore, countOf};
+ghost use Rattle.plan.specs.Reports.{reportOf, countOf};
 
 pub enum Kind {
     WellFormed,

@@ -1,17 +1,17 @@
--- `before t`, the number of reports before minute t, and what it says of stretches: they add up, the fullest start at a report,
--- and the thinnest a minute after one.
+-- The number of reports before a minute, and what it says of stretches: they add up, the fullest start at a report, and the thinnest a
+-- minute after one.
 use Prim.Native.Nat.{ℕ, zero, suc, _+_, _-_, _≤_, _<_}
 use native.Mathlib.Omega.{arith}
-use native.Mathlib.Nat.{add-assoc, add-zero}
+use native.Mathlib.Nat.{add-assoc, add-zero, zero-add, sub-zero}
 use native.Mathlib.Numerals.{add-one}
-use mathlib.Core.Path.{_≡_, refl}
+use mathlib.Core.Path.{_≡_, refl, sym}
 use mathlib.Core.Logic.{_↔_, ⊎-elim}
-use mathlib.Core.Bool.{Bool, true, false}
+use mathlib.Core.Bool.{Bool, true, false, cond}
 use lib.Dec.{ltb}
 use borrow.Author.Tests.{ltb-true, ltb-false}
 use Rattle.numbers.proofs.Cases.{lt-cases}
-use Rattle.schedule.specs.Schedules.{Schedule, minute, stretch}
-use Rattle.schedule.proofs.Sums.{sum-none, sum-more, block, block-none, block-add, block-one, block-part}
+use Rattle.schedule.specs.Schedules.{Schedule, sum, minute, stretch, reportsBefore}
+use Rattle.schedule.proofs.Sums.{sum-none, sum-more, sum-add, sum-block, block, block-none, block-add, block-one, block-part}
 use Rattle.schedule.proofs.Stretches.{stretch-block}
 
 module _ (s : Schedule) where
@@ -30,30 +30,41 @@ module _ (s : Schedule) where
   pub minute-mono : (i j : ℕ) → i ≤ j → minute s i ≤ minute s j
   minute-mono i j h = let e : j ≡ i + (j - i) = omega arith in rw e (minute-later i (j - i))
 
-  -- the number of the first n reports, where the last of them before minute t is looked for from the top
-  beforeIn : ℕ → ℕ → ℕ
-  beforeIn t zero = 0
-  beforeIn t (suc n) = elim (ltb (minute s n) t) [ true ↦ suc n | false ↦ beforeIn t n ]
+  -- of the first n reports, those before minute t
+  among : ℕ → ℕ → ℕ
+  among t n = sum (λ i. cond (ltb (minute s i) t) 1 0) n
 
+  -- minutes never fall, so these are the first k of them
   record Counted (t n k : ℕ) : Type 0 where
+    few : k ≤ n
     inside : (i : ℕ) → i < k → minute s i < t
     outside : (i : ℕ) → k ≤ i → i < n → t ≤ minute s i
 
-  beforeIn-right : (t n : ℕ) → Counted t n (beforeIn t n)
-  unfolding beforeIn
-  beforeIn-right t zero = record { inside = λ i h. absurd (omega arith); outside = λ i a b. absurd (omega arith) }
-  beforeIn-right t (suc n) = top (ltb (minute s n) t) refl (beforeIn-right t n)
+  among-right : (t n : ℕ) → Counted t n (among t n)
+  unfolding among
+  among-right t zero = rw sum-none (record { few = omega arith; inside = λ i h. absurd (omega arith); outside = λ i a b. absurd (omega arith) })
+  among-right t (suc n) = rw (← add-one n, sum-more (λ i. cond (ltb (minute s i) t) 1 0) n) (top (ltb (minute s n) t) refl (among-right t n))
     where
-      top : (b : Bool) → ltb (minute s n) t ≡ b → Counted t n (beforeIn t n) → Counted t (suc n) (elim b [ true ↦ suc n | false ↦ beforeIn t n ])
-      top true e ih = record {
-        inside = λ i h. omega (arith, minute-mono i n (omega arith), ltb-true (minute s n) t e);
-        outside = λ i a b. absurd (omega arith);
-      }
-      top false e ih = record {
-        inside = ih .inside;
-        outside = λ i a b.
-            ⊎-elim (λ q. ih .outside i a q) (λ q. let z : i ≡ n = omega arith in rw z (ltb-false _ _ e)) (lt-cases i n);
-      }
+      top : (b : Bool) → ltb (minute s n) t ≡ b → Counted t n (among t n) → Counted t (n + 1) (among t n + cond b 1 0)
+      top true e ih =
+          let all : n ≤ among t n =
+          ⊎-elim
+          (λ q. absurd (omega (arith, ih .outside (among t n) (omega arith) q, minute-mono (among t n) n (omega arith), ltb-true (minute s n) t e)))
+          (λ q. q)
+          (lt-cases (among t n) n) in
+          record {
+            few = omega (arith, ih .few);
+            inside = λ i h. omega (arith, minute-mono i n (omega (arith, ih .few)), ltb-true (minute s n) t e);
+            outside = λ i a b. absurd (omega arith);
+          }
+      top false e ih =
+          rw add-zero
+          (record {
+            few = omega (arith, ih .few);
+            inside = ih .inside;
+            outside = λ i a b.
+                ⊎-elim (λ q. ih .outside i a q) (λ q. let z : i ≡ n = omega arith in rw z (ltb-false _ _ e)) (lt-cases i n);
+          })
 
   module _ (later : (i : ℕ) → 1 ≤ s .gap i) where
     pub minute-least : (i : ℕ) → i ≤ minute s i
@@ -66,67 +77,91 @@ module _ (s : Schedule) where
     pub minute-iff : (i j : ℕ) → minute s i < minute s j ↔ i < j
     minute-iff i j = (λ h. ⊎-elim (λ q. q) (λ q. absurd (omega (arith, minute-mono j i q))) (lt-cases i j), minute-rise i j)
 
-    -- the reports before minute t
-    pub before : ℕ → ℕ
-    before t = beforeIn t t
-
-    pub before-iff : (t i : ℕ) → minute s i < t ↔ i < before t
-    unfolding before
+    pub before-iff : (t i : ℕ) → minute s i < t ↔ i < reportsBefore s t
+    unfolding reportsBefore among
     before-iff t i =
-        let c = beforeIn-right t t in (
+        let c = among-right t t in (
           λ h.
-              ⊎-elim (λ q. q) (λ q. absurd (let r = c .outside i q (omega (arith, minute-least i)) in omega arith)) (lt-cases i (beforeIn t t)),
+              ⊎-elim (λ q. q) (λ q. absurd (let r = c .outside i q (omega (arith, minute-least i)) in omega arith)) (lt-cases i (among t t)),
           λ h. c .inside i h,
         )
 
-    pub before-le : (t : ℕ) → before t ≤ t
+    -- a number below which just the reports before minute t are is their count
+    pub before-is : (t b : ℕ) → ((i : ℕ) → minute s i < t ↔ i < b) → reportsBefore s t ≡ b
+    before-is t b each =
+        ⊎-elim
+        (λ q. absurd (let r = before-iff t (reportsBefore s t) .0 (each (reportsBefore s t) .1 q) in omega arith))
+        (λ q. ⊎-elim (λ r. absurd (let x = each b .0 (before-iff t b .1 r) in omega arith)) (λ r. omega arith) (lt-cases b (reportsBefore s t)))
+        (lt-cases (reportsBefore s t) b)
+
+    pub before-le : (t : ℕ) → reportsBefore s t ≤ t
     before-le t =
-        ⊎-elim (λ q. absurd (let r = before-iff t t .1 q in omega (arith, minute-least t))) (λ q. q) (lt-cases t (before t))
+        ⊎-elim (λ q. absurd (let r = before-iff t t .1 q in omega (arith, minute-least t))) (λ q. q) (lt-cases t (reportsBefore s t))
 
-    pub stretch-before : (a w : ℕ) → stretch s a w ≡ block (s .size) (before a) (before (a + w) - before a)
-    stretch-before a w = stretch-block s a w (before a) (before (a + w)) (before-iff a) (before-iff (a + w)) (before-le (a + w))
+    pub stretch-before : (a w : ℕ) → stretch s a w ≡ block (s .size) (reportsBefore s a) (reportsBefore s (a + w) - reportsBefore s a)
+    stretch-before a w = stretch-block s a w (reportsBefore s a) (reportsBefore s (a + w)) (before-iff a) (before-iff (a + w)) (before-le (a + w))
 
-    -- report `before t` is the first at minute t or later
-    pub before-reach : (t : ℕ) → t ≤ minute s (before t)
+    -- the next report is the first at minute t or later
+    pub before-reach : (t : ℕ) → t ≤ minute s (reportsBefore s t)
     before-reach t =
-        ⊎-elim (λ q. absurd (let r = before-iff t (before t) .0 q in omega arith)) (λ q. q) (lt-cases (minute s (before t)) t)
+        ⊎-elim (λ q. absurd (let r = before-iff t (reportsBefore s t) .0 q in omega arith)) (λ q. q) (lt-cases (minute s (reportsBefore s t)) t)
 
-    pub before-mono : (t t′ : ℕ) → t ≤ t′ → before t ≤ before t′
+    pub before-mono : (t t′ : ℕ) → t ≤ t′ → reportsBefore s t ≤ reportsBefore s t′
     before-mono t t′ h =
-        ⊎-elim (λ q. absurd (let r = before-iff t (before t′) .1 q in omega (arith, before-reach t′))) (λ q. q) (lt-cases (before t′) (before t))
+        ⊎-elim (λ q. absurd (let r = before-iff t (reportsBefore s t′) .1 q in omega (arith, before-reach t′))) (λ q. q) (lt-cases (reportsBefore s t′) (reportsBefore s t))
 
     pub stretch-none : (a : ℕ) → stretch s a 0 ≡ 0
     stretch-none a =
-        let z : before (a + 0) - before a ≡ 0 = rw add-zero (omega arith) in
+        let z : reportsBefore s (a + 0) - reportsBefore s a ≡ 0 = rw add-zero (omega arith) in
         rw (stretch-before a 0, z, block-none)
 
     pub stretch-add : (a v w : ℕ) → stretch s a (v + w) ≡ stretch s a v + stretch s (a + v) w
     stretch-add a v w =
-        let p : before a ≤ before (a + v) = before-mono a (a + v) (omega arith) in
-        let q : before (a + v) ≤ before (a + v + w) = before-mono (a + v) (a + v + w) (omega arith) in
-        let x : before (a + v + w) - before a ≡ before (a + v) - before a + (before (a + v + w) - before (a + v)) = omega arith in
-        let y : before a + (before (a + v) - before a) ≡ before (a + v) = omega arith in
+        let p : reportsBefore s a ≤ reportsBefore s (a + v) = before-mono a (a + v) (omega arith) in
+        let q : reportsBefore s (a + v) ≤ reportsBefore s (a + v + w) = before-mono (a + v) (a + v + w) (omega arith) in
+        let x : reportsBefore s (a + v + w) - reportsBefore s a ≡ reportsBefore s (a + v) - reportsBefore s a + (reportsBefore s (a + v + w) - reportsBefore s (a + v)) = omega arith in
+        let y : reportsBefore s a + (reportsBefore s (a + v) - reportsBefore s a) ≡ reportsBefore s (a + v) = omega arith in
         rw (stretch-before a (v + w), ← add-assoc a v w, x, block-add, y, ← stretch-before a v, ← stretch-before (a + v) w)
 
     pub stretch-longer : (a w w′ : ℕ) → w ≤ w′ → stretch s a w ≤ stretch s a w′
     stretch-longer a w w′ h =
         rw (stretch-before a w, stretch-before a w′)
-        (block-part (s .size) (before a) _ _ (omega (arith, before-mono (a + w) (a + w′) (omega arith))))
+        (block-part (s .size) (reportsBefore s a) _ _ (omega (arith, before-mono (a + w) (a + w′) (omega arith))))
 
-    pub before-minute : (j : ℕ) → before (minute s j) ≡ j
+    pub before-minute : (j : ℕ) → reportsBefore s (minute s j) ≡ j
     before-minute j =
         ⊎-elim
-        (λ q. absurd (let r = before-iff (minute s j) (before (minute s j)) .0 (minute-rise (before (minute s j)) j q) in omega arith))
-        (λ q. ⊎-elim (λ r. absurd (let t = before-iff (minute s j) j .1 r in omega arith)) (λ r. omega arith) (lt-cases j (before (minute s j))))
-        (lt-cases (before (minute s j)) j)
+        (λ q. absurd (let r = before-iff (minute s j) (reportsBefore s (minute s j)) .0 (minute-rise (reportsBefore s (minute s j)) j q) in omega arith))
+        (λ q. ⊎-elim (λ r. absurd (let t = before-iff (minute s j) j .1 r in omega arith)) (λ r. omega arith) (lt-cases j (reportsBefore s (minute s j))))
+        (lt-cases (reportsBefore s (minute s j)) j)
 
-    pub before-next : (j : ℕ) → before (minute s j + 1) ≡ j + 1
+    pub before-next : (j : ℕ) → reportsBefore s (minute s j + 1) ≡ j + 1
     before-next j =
         let u = before-iff (minute s j + 1) j .0 (omega arith) in
         ⊎-elim
         (λ q. absurd (let r = before-iff (minute s j + 1) (j + 1) .1 q in omega (arith, minute-rise j (j + 1) (omega arith))))
         (λ q. omega arith)
-        (lt-cases (j + 1) (before (minute s j + 1)))
+        (lt-cases (j + 1) (reportsBefore s (minute s j + 1)))
+
+    -- the last report at or before minute m, and the next
+    pub last-report : (m : ℕ) → (minute s (reportsBefore s (m + 1) - 1) ≤ m) × (m < minute s (reportsBefore s (m + 1)))
+    last-report m =
+        let some = before-iff (m + 1) 0 .0 (omega (arith, minute-none)) in
+        let last = before-iff (m + 1) (reportsBefore s (m + 1) - 1) .1 (omega arith) in
+        (omega arith, omega (arith, before-reach (m + 1)))
+
+    -- what the first m minutes hold is what the reports before minute m hold, and so of the minutes from a on
+    pub first-minutes : (m : ℕ) → stretch s 0 m ≡ sum (s .size) (reportsBefore s m)
+    first-minutes m =
+        let z : reportsBefore s 0 ≡ 0 = omega (arith, before-le 0) in
+        rw (stretch-before 0 m, z, zero-add, sub-zero, sum-block (s .size) (reportsBefore s m))
+
+    pub records-between : (a w : ℕ) → sum (s .size) (reportsBefore s a) + stretch s a w ≡ sum (s .size) (reportsBefore s (a + w))
+    records-between a w =
+        let x = reportsBefore s a in
+        let y = reportsBefore s (a + w) in
+        let e : x + (y - x) ≡ y = omega (arith, before-mono a (a + w) (omega arith)) in
+        rw (stretch-before a w) (rw e at (sym (sum-add (s .size) x (y - x))))
 
     -- the minutes from a report on hold that report, and what the minutes after it hold
     pub stretch-after : (j w : ℕ) → stretch s (minute s j) (w + 1) ≡ s .size j + stretch s (minute s j + 1) w
@@ -136,18 +171,18 @@ module _ (s : Schedule) where
         rw (e, stretch-add (minute s j) 1 w, stretch-before (minute s j) 1, before-minute j, before-next j, z, block-one (s .size) j)
 
     -- The fullest stretches start at a report.
-    pub fullest-at-report : (a w : ℕ) → stretch s a w ≤ stretch s (minute s (before a)) w
+    pub fullest-at-report : (a w : ℕ) → stretch s a w ≤ stretch s (minute s (reportsBefore s a)) w
     fullest-at-report a w =
-        let j = before a in
+        let j = reportsBefore s a in
         rw (stretch-before a w, stretch-before (minute s j) w, before-minute j)
         (block-part (s .size) j _ _ (omega (arith, before-mono (a + w) (minute s j + w) (omega (arith, before-reach a)))))
 
     -- The thinnest start a minute after one.
-    pub thinnest-after-report : (a w : ℕ) → 0 < a → stretch s (minute s (before a - 1) + 1) w ≤ stretch s a w
+    pub thinnest-after-report : (a w : ℕ) → 0 < a → stretch s (minute s (reportsBefore s a - 1) + 1) w ≤ stretch s a w
     thinnest-after-report a w h =
-        let p : 0 < before a = before-iff a 0 .0 (omega (arith, minute-none)) in
-        let j = before a - 1 in
-        let e : j + 1 ≡ before a = omega arith in
+        let p : 0 < reportsBefore s a = before-iff a 0 .0 (omega (arith, minute-none)) in
+        let j = reportsBefore s a - 1 in
+        let e : j + 1 ≡ reportsBefore s a = omega arith in
         let m : minute s j < a = before-iff a j .1 (omega arith) in
         rw (stretch-before a w, stretch-before (minute s j + 1) w, before-next j, e)
-        (block-part (s .size) (before a) _ _ (omega (arith, before-mono (minute s j + 1 + w) (a + w) (omega arith))))
+        (block-part (s .size) (reportsBefore s a) _ _ (omega (arith, before-mono (minute s j + 1 + w) (a + w) (omega arith))))

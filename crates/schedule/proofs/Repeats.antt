@@ -7,10 +7,10 @@ use native.Mathlib.Numerals.{add-one}
 use mathlib.Core.Path.{_≡_, sym, _∙_, ap}
 use mathlib.Core.Logic.{_↔_, ⊎-elim}
 use Rattle.numbers.proofs.Cases.{lt-cases}
-use Rattle.schedule.specs.Schedules.{Schedule, sum, minute, stretch}
+use Rattle.schedule.specs.Schedules.{Schedule, sum, minute, stretch, reportsBefore}
 use Rattle.schedule.proofs.Sums.{sum-again, sum-whole, block, block-none, block-more, block-round}
 use Rattle.schedule.proofs.Stretches.{stretch-block}
-use Rattle.schedule.proofs.Before.{minute-least, minute-rise, before, before-iff, before-le, stretch-before, stretch-add, fullest-at-report, thinnest-after-report}
+use Rattle.schedule.proofs.Before.{minute-least, minute-rise, before-iff, before-le, stretch-before, stretch-add, fullest-at-report, thinnest-after-report}
 
 pub minute-again : (s : Schedule) (c : ℕ) → ((i : ℕ) → s .gap (i + c) ≡ s .gap i) → (i : ℕ) → minute s (i + c) ≡ minute s i + minute s c
 unfolding minute
@@ -28,13 +28,13 @@ module _ (s : Schedule) (later : (i : ℕ) → 1 ≤ s .gap i) (c : ℕ) (size-a
       rw (← add-one n, block-more (s .size) (lo + c) n, block-more (s .size) lo n, block-again lo n, add-right-comm lo c n, size-again (lo + n))
 
   -- a round later there are c reports more before
-  before-again : (a i : ℕ) → minute s i < a + minute s c ↔ i < before s later a + c
+  before-again : (a i : ℕ) → minute s i < a + minute s c ↔ i < reportsBefore s a + c
   before-again a i = ⊎-elim early late (lt-cases i c)
     where
-      early : i < c → minute s i < a + minute s c ↔ i < before s later a + c
+      early : i < c → minute s i < a + minute s c ↔ i < reportsBefore s a + c
       early h = (λ x. omega arith, λ x. omega (arith, minute-rise s later i c h))
 
-      late : c ≤ i → minute s i < a + minute s c ↔ i < before s later a + c
+      late : c ≤ i → minute s i < a + minute s c ↔ i < reportsBefore s a + c
       late h =
           let e : minute s i ≡ minute s (i - c) + minute s c = let z : i - c + c ≡ i = omega arith in rw z at (minute-again s c gap-again (i - c)) in
           let r = before-iff s later a (i - c) in
@@ -43,18 +43,18 @@ module _ (s : Schedule) (later : (i : ℕ) → 1 ≤ s .gap i) (c : ℕ) (size-a
   -- every stretch of one round holds the records of a round
   pub stretch-round : (a : ℕ) → stretch s a (minute s c) ≡ sum (s .size) c
   stretch-round a =
-      let z : before s later a + c - before s later a ≡ c = omega arith in
+      let z : reportsBefore s a + c - reportsBefore s a ≡ c = omega arith in
       rw z at
-      (stretch-block s a (minute s c) (before s later a) (before s later a + c) (before-iff s later a) (before-again a) (omega (arith, before-le s later a, minute-least s later c)))
-      ∙ block-round (s .size) c size-again (before s later a)
+      (stretch-block s a (minute s c) (reportsBefore s a) (reportsBefore s a + c) (before-iff s later a) (before-again a) (omega (arith, before-le s later a, minute-least s later c)))
+      ∙ block-round (s .size) c size-again (reportsBefore s a)
 
   pub stretch-again : (a w : ℕ) → stretch s (a + minute s c) w ≡ stretch s a w
   stretch-again a w =
       let e : a + minute s c + w ≡ a + w + minute s c = omega arith in
-      let z : before s later (a + w) + c - (before s later a + c) ≡ before s later (a + w) - before s later a = omega arith in
-      stretch-block s (a + minute s c) w (before s later a + c) (before s later (a + w) + c) (before-again a) (rw e (before-again (a + w)))
+      let z : reportsBefore s (a + w) + c - (reportsBefore s a + c) ≡ reportsBefore s (a + w) - reportsBefore s a = omega arith in
+      stretch-block s (a + minute s c) w (reportsBefore s a + c) (reportsBefore s (a + w) + c) (before-again a) (rw e (before-again (a + w)))
       (omega (arith, before-le s later (a + w), minute-least s later c))
-      ∙ rw (z, block-again (before s later a), stretch-before s later a w)
+      ∙ rw (z, block-again (reportsBefore s a), stretch-before s later a w)
 
   pub stretch-rounds : (a q w : ℕ) → stretch s (a + q * minute s c) w ≡ stretch s a w
   stretch-rounds a zero w = rw (zero-mul, add-zero)
@@ -88,14 +88,14 @@ module _ (s : Schedule) (later : (i : ℕ) → 1 ≤ s .gap i) (c : ℕ) (size-a
     -- the supply rule need be shown only at the reports of one round
     pub full-at-report : (w b : ℕ) → ((j : ℕ) → j < c → stretch s (minute s j) w ≤ b) → (a : ℕ) → stretch s a w ≤ b
     full-at-report w b h a =
-        let j = before s later a in
+        let j = reportsBefore s a in
         let m : minute s j ≡ minute s (j % c) + j / c * minute s c = omega (arith, minute-first j) in
         let e : stretch s (minute s j) w ≡ stretch s (minute s (j % c)) w = rw m (stretch-rounds (minute s (j % c)) (j / c) w) in
         omega (arith, fullest-at-report s later a w, e, h (j % c) (mod-lt j some))
 
     thin : (w l : ℕ) → ((j : ℕ) → j < c → l ≤ stretch s (minute s j + 1) w) → (a : ℕ) → 0 < a → l ≤ stretch s a w
     thin w l h a p =
-        let j = before s later a - 1 in
+        let j = reportsBefore s a - 1 in
         let m : minute s j + 1 ≡ minute s (j % c) + 1 + j / c * minute s c = omega (arith, minute-first j) in
         let e : stretch s (minute s j + 1) w ≡ stretch s (minute s (j % c) + 1) w = rw m (stretch-rounds (minute s (j % c) + 1) (j / c) w) in
         omega (arith, thinnest-after-report s later a w p, e, h (j % c) (mod-lt j some))

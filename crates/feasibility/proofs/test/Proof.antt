@@ -66,16 +66,16 @@ returns-2 c =
 returns-3 : tie.Need-returns-3
 unfolding testOf testConsistent
 returns-3 c =
-    let judged = c .before .before .before in
-    let there = judged .before .before in
-    rw (← there .before .before .started .ensures, there .start .given .1, ← judged .consistency-of .ensures, c .before .c .given .1)
+    let found = c .before .before .before in
+    let there = found .before .before in
+    rw (← there .before .before .started .ensures, there .start .given .1, ← found .consistency-of .ensures, c .before .c .given .1)
 
 returns-4 : tie.Need-returns-4
 unfolding testOf testConsistent
 returns-4 c =
-    let judged = c .before .before .before in
-    let there = judged .before .before in
-    rw (← there .before .before .started .ensures, there .start .given .1, ← judged .consistency-of .ensures, c .before .n .given .1)
+    let found = c .before .before .before in
+    let there = found .before .before in
+    rw (← there .before .before .started .ensures, there .start .given .1, ← found .consistency-of .ensures, c .before .n .given .1)
 
 pub test-spec : {M : Type 1} → statement M
 test-spec =

@@ -2,7 +2,8 @@
 use mathlib.Core.Path.{sym, _∙_}
 use borrow.Author.Tests.{not-true, not-false}
 use Rattle.plan.proofs.Answers.{not-counted, counted}
-use Rattle.plan.proofs.PlanCounts.{records-before}
+use Rattle.schedule.proofs.Before.{first-minutes}
+use Rattle.plan.proofs.Runs.{run-later}
 use borrow.Author.Needs.{needs}
 use Rattle.plan.proofs.records_before.Statement.{statement}
 use Rattle.plan.proofs.records_before.Tie as tie
@@ -22,7 +23,7 @@ held-by-first-requires c κs = ((sym (c .before .before .is-proper .ensures) ∙
 returns-2 : tie.Need-returns-2
 returns-2 c =
     let ok = sym (c .before .before .before .is-proper .ensures) ∙ not-false _ (c .before .before .if1 .left) in
-    counted _ _ ok (rw (c .held-by-first .ensures, c .before .count-before .ensures .0) (sym (records-before _ ok _)))
+    counted _ _ ok (rw (c .held-by-first .ensures, c .before .count-before .ensures .0) (sym (first-minutes _ (run-later _ ok) _)))
 
 pub records-before-spec : {M : Type 1} → statement M
 records-before-spec =
