@@ -75,7 +75,7 @@ module _ (words : List ℕ) (i : ℕ) (before : Before) (b : List ℕ) where
   unfolding readPairs passedPairs
   pass-end e = rw (eq-eqb (length b) 0 e, add-zero)
 
-  pub pass-over : (length b ≡ 0 → ⊥) → passFrom words i 0 before b ≡ (Refused 18, words)
+  pub pass-over : (length b ≡ 0 → ⊥) → passFrom words i 0 before b ≡ (Refused 21, words)
   unfolding readPairs passedPairs
   pass-over e = rw (ne-eqb (length b) 0 e)
 

@@ -31,7 +31,7 @@ unfolding readPairs
 split before b k ps h = split-by before b k ps (readPair before b) refl h
 
 -- no pair is left, and no byte over
-ended-by : (ps : List Pair) (t : Bool) → cond t (pairs []) (refused 18) ≡ pairs ps → (t ≡ true) × (ps ≡ [])
+ended-by : (ps : List Pair) (t : Bool) → cond t (pairs []) (refused 21) ≡ pairs ps → (t ≡ true) × (ps ≡ [])
 ended-by ps true h = (refl, cc)
 ended-by ps false h = absurd (let z : _≡_ {A = ℕ} 0 1 = cc in omega arith)
 

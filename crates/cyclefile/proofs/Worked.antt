@@ -50,6 +50,6 @@ size-cut : readCycle 512 (0 ∷ 2 ∷ 3 ∷ 0 ∷ 5 ∷ 0 ∷ 3 ∷ 3 ∷ 0 ∷ 
 unfolding readCycle readPairs readPair
 size-cut = refl
 
-one-byte-over : readCycle 512 (0 ∷ 1 ∷ 3 ∷ 0 ∷ 5 ∷ 0 ∷ 3 ∷ 0 ∷ []) ≡ refused 18
+one-byte-over : readCycle 512 (0 ∷ 1 ∷ 3 ∷ 0 ∷ 5 ∷ 0 ∷ 3 ∷ 0 ∷ []) ≡ refused 21
 unfolding readCycle readPairs readPair
 one-byte-over = refl

@@ -124,9 +124,9 @@ abbrev pub withFirst : Pair → CycleRead → CycleRead
 withFirst p (pairs ps) = pairs (p ∷ ps)
 withFirst p (refused n) = refused n
 
--- n pairs, and "last 18 bytes over"
+-- n pairs, and last of all (document 02, Req 01) "21 bytes over, at the place where document 01 has its last 18"
 unfoldable pub readPairs : ℕ → Before → List ℕ → CycleRead
-readPairs zero before b = cond (eqb (length b) 0) (pairs []) (refused 18)
+readPairs zero before b = cond (eqb (length b) 0) (pairs []) (refused 21)
 readPairs (suc n) before b = afterPair (readPair before b) refused (λ (p : Pair) (taken : ℕ). withFirst p (readPairs n (behind p) (drop taken b)))
 
 -- "18 under 2 bytes; 12; 20 the lent list has fewer places than the count; then pair by pair .."

@@ -19,14 +19,14 @@ either P false px py = py
 
 -- A cycle: the numbers of its refusals.
 abbrev pub CycleRefusal : ℕ → Type 0
-CycleRefusal n = (n ≡ 12) ⊎ ((17 ≤ n) × (n ≤ 20))
+CycleRefusal n = (n ≡ 12) ⊎ ((17 ≤ n) × (n ≤ 21))
 
--- reading a pair stops, reading pairs is refused, with 17 to 20 or not at all
+-- reading a pair stops, reading pairs is refused, with 17 to 21 or not at all
 unfoldable StopsWith : PairRead → Type 0
 StopsWith (Taken p taken) = Unit {0}
-StopsWith (Stopped n) = (17 ≤ n) × (n ≤ 20)
+StopsWith (Stopped n) = (17 ≤ n) × (n ≤ 21)
 
-stops : (n : ℕ) → 17 ≤ n → n ≤ 20 → StopsWith (Stopped n)
+stops : (n : ℕ) → 17 ≤ n → n ≤ 21 → StopsWith (Stopped n)
 unfolding StopsWith
 stops n low high = (low, high)
 
@@ -36,9 +36,9 @@ taken-stops p taken = tt
 
 unfoldable RefusesWith : CycleRead → Type 0
 RefusesWith (pairs ps) = Unit {0}
-RefusesWith (refused n) = (17 ≤ n) × (n ≤ 20)
+RefusesWith (refused n) = (17 ≤ n) × (n ≤ 21)
 
-refuses : (n : ℕ) → 17 ≤ n → n ≤ 20 → RefusesWith (refused n)
+refuses : (n : ℕ) → 17 ≤ n → n ≤ 21 → RefusesWith (refused n)
 unfolding RefusesWith
 refuses n low high = (low, high)
 
@@ -66,7 +66,7 @@ then-refuses (Stopped n) rest s h = refuses n (s .0) (s .1)
 
 pairs-refuse : (n : ℕ) (before : Before) (b : List ℕ) → RefusesWith (readPairs n before b)
 unfolding readPairs
-pairs-refuse zero before b = either RefusesWith (eqb (length b) 0) (read-refuses []) (refuses 18 (omega arith) (omega arith))
+pairs-refuse zero before b = either RefusesWith (eqb (length b) 0) (read-refuses []) (refuses 21 (omega arith) (omega arith))
 pairs-refuse (suc n) before b =
     then-refuses (readPair before b) (λ (p : Pair) (taken : ℕ). withFirst p (readPairs n (behind p) (drop taken b))) (pair-stops before b)
     (λ p taken. first-refuses p (readPairs n (behind p) (drop taken b)) (pairs-refuse n (behind p) (drop taken b)))

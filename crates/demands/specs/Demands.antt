@@ -40,7 +40,7 @@ pub record Demands : Type 0 where
       ⊎ ((n : ℕ) × ((readSpec bytes ≡ NotRead n) × ((1 ≤ n) × (n ≤ 4))))
   pub cycle-read : (places : ℕ) (file : List ℕ)
       → ((c : List Pair) × ((readCycle places file ≡ pairs c) × ((1 ≤ length c) × ((length c ≤ 512) × (length c ≤ places)))))
-      ⊎ ((n : ℕ) × ((readCycle places file ≡ refused n) × ((n ≡ 12) ⊎ ((17 ≤ n) × (n ≤ 20)))))
+      ⊎ ((n : ℕ) × ((readCycle places file ≡ refused n) × ((n ≡ 12) ⊎ ((17 ≤ n) × (n ≤ 21)))))
   pub refused-list-kept : (file : List ℕ) (held held′ : List Pair) (count count′ n : ℕ)
       → Reads (readCycle (length held) file) held count n held′ count′ → 0 < n → (held′ ≡ held) × (count′ ≡ count)
   pub refused-bytes-kept : (c : List Pair) (held : List ℕ)

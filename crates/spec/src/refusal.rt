@@ -1,4 +1,4 @@
-// The numbers of document 01's refusals, by name. The definitions in `specs/` give the numbers.
+// The numbers of the refusals of documents 01 and 02, by name. The definitions in `specs/` give the numbers.
 
 // Reading a specification; LIMITS and ORDER begin every operation that is given one.
 pub const MAP: u32 = 1;
@@ -41,8 +41,8 @@ pub const PAIR_MAP: u32 = 17;
 
 pub const CUT: u32 = 18;
 
-pub const BYTES_OVER: u32 = 18;
-
 pub const NOT_LEFT_OUT: u32 = 19;
 
 pub const NO_ROOM: u32 = 20;
+
+pub const BYTES_OVER: u32 = 21;
