@@ -6,5 +6,7 @@ pub mod PlainSteps
 pub mod OnePass
 pub mod ReadWords
 pub mod RoundTrip
+pub mod Refusals
+pub mod CutOrOver
 pub mod Worked
 pub mod WrittenBytes

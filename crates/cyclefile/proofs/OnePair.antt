@@ -1,7 +1,7 @@
 -- Reading one pair, by cases: what `readPair` is where each test of it went one way. Assumes nothing.
 use mathlib.Core.Path.{_≡_, refl}
 use Prim.Native.Nat.{ℕ, _≤_, _<_}
-use mathlib.Core.Bool.{Bool, true, false}
+use mathlib.Core.Bool.{Bool, true, false, cond}
 use mathlib.Core.List.{List}
 use native.Mathlib.Omega.{arith}
 use lib.Dec.{eqb, ltb}
@@ -60,5 +60,22 @@ took-by before b p n h false false false false e₁ e₂ e₃ e₄ =
 pub took : (before : Before) (b : List ℕ) (p : Pair) (n : ℕ) → readPair before b ≡ Taken p n → Took before b p n
 took before b p n h = took-by before b p n h (eqb (length b) 0) (mapIsWrong before (getD b 0 0)) (ltb (length b) (bytesTaken (getD b 0 0))) (standsInVain before (getD b 0 0) (pairAt (lastPair before) b)) refl refl refl refl
 
+-- a pair takes a byte at least, and no more than there are
+pub taken-some : (before : Before) (b : List ℕ) (p : Pair) (n : ℕ) → readPair before b ≡ Taken p n → 1 ≤ n
+taken-some before b p n h = omega (arith, took before b p n h .taken-is)
+
 pub taken-within : (before : Before) (b : List ℕ) (p : Pair) (n : ℕ) → readPair before b ≡ Taken p n → n ≤ length b
 taken-within before b p n h = let t = took before b p n h in rw (t .taken-is) (t .long)
+
+-- a pair is refused with 17 to 19
+stopped-by : (t₁ t₂ t₃ t₄ : Bool) (p : Pair) (k n : ℕ) → cond t₁ (Stopped 18) (cond t₂ (Stopped 17) (cond t₃ (Stopped 18) (cond t₄ (Stopped 19) (Taken p k)))) ≡ Stopped n → (17 ≤ n) × (n ≤ 19)
+stopped-by true t₂ t₃ t₄ p k n h = let z : 18 ≡ n = cc in (omega arith, omega arith)
+stopped-by false true t₃ t₄ p k n h = let z : 17 ≡ n = cc in (omega arith, omega arith)
+stopped-by false false true t₄ p k n h = let z : 18 ≡ n = cc in (omega arith, omega arith)
+stopped-by false false false true p k n h = let z : 19 ≡ n = cc in (omega arith, omega arith)
+stopped-by false false false false p k n h = absurd (let z : _≡_ {A = ℕ} 0 1 = cc in omega arith)
+
+pub stopped-number : (before : Before) (b : List ℕ) (n : ℕ) → readPair before b ≡ Stopped n → (17 ≤ n) × (n ≤ 19)
+unfolding readPair
+stopped-number before b n h =
+    stopped-by (eqb (length b) 0) (mapIsWrong before (getD b 0 0)) (ltb (length b) (bytesTaken (getD b 0 0))) (standsInVain before (getD b 0 0) (pairAt (lastPair before) b)) (pairAt (lastPair before) b) (bytesTaken (getD b 0 0)) n h

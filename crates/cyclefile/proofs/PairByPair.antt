@@ -1,4 +1,5 @@
--- Laws of reading pair by pair: what is left reads as some pairs where one is taken and the rest reads as the others. Assumes nothing.
+-- Laws of reading pair by pair: what is left reads as some pairs where one is taken and the rest reads as the others, and is refused where
+-- the first is, or one is taken and the rest is refused. Assumes nothing.
 use mathlib.Core.Path.{_≡_, refl, sym, ap, _∙_}
 use Prim.Native.Nat.{ℕ, zero, suc, _≤_, zero-le}
 use native.Mathlib.Omega.{arith}
@@ -6,9 +7,19 @@ use mathlib.Core.Bool.{Bool, true, false, cond}
 use mathlib.Core.List.{List, [], _∷_}
 use lib.Dec.{eqb}
 use lib.ListN.{length, drop}
-use borrow.Author.Tests.{eqb-true}
+use borrow.Author.Tests.{eqb-true, eqb-false, ne-eqb}
 use Rattle.pairs.specs.declared.Pair.{Pair}
 use Rattle.cyclefile.specs.File.{Before, behind, CycleRead, pairs, refused, PairRead, Taken, Stopped, readPair, afterPair, withFirst, readPairs, passedPairs}
+
+-- a pair that is taken leaves the rest to decide, and one that is refused decides
+module _ (before : Before) (b : List ℕ) (k : ℕ) where
+  pub taken-first : {p : Pair} {n : ℕ} → readPair before b ≡ Taken p n → readPairs (suc k) before b ≡ withFirst p (readPairs k (behind p) (drop n b))
+  unfolding readPairs
+  taken-first h = rw h
+
+  pub stopped-first : {n : ℕ} → readPair before b ≡ Stopped n → readPairs (suc k) before b ≡ refused n
+  unfolding readPairs
+  stopped-first h = rw h
 
 pub record Split (before : Before) (b : List ℕ) (k : ℕ) (ps : List Pair) : Type 0 where
   pub head : Pair
@@ -38,6 +49,35 @@ ended-by ps false h = absurd (let z : _≡_ {A = ℕ} 0 1 = cc in omega arith)
 pub ended : (before : Before) (b : List ℕ) (ps : List Pair) → readPairs 0 before b ≡ pairs ps → (length b ≡ 0) × (ps ≡ [])
 unfolding readPairs
 ended before b ps h = let e = ended-by ps (eqb (length b) 0) h in (eqb-true (length b) 0 (e .0), e .1)
+
+-- the first pair is refused, or it is taken and the rest is refused
+pub data RefusedAt (before : Before) (b : List ℕ) (k n : ℕ) : Type 0 where
+  first : readPair before b ≡ Stopped n → RefusedAt before b k n
+  later : (p : Pair) (taken : ℕ) → readPair before b ≡ Taken p taken → readPairs k (behind p) (drop taken b) ≡ refused n → RefusedAt before b k n
+
+rest-refused : (p : Pair) (rest : CycleRead) (n : ℕ) → withFirst p rest ≡ refused n → rest ≡ refused n
+rest-refused p (pairs ps) n h = absurd (let z : _≡_ {A = ℕ} 0 1 = cc in omega arith)
+rest-refused p (refused m) n h = h
+
+refused-by : (before : Before) (b : List ℕ) (k n : ℕ) (r : PairRead) → readPair before b ≡ r → readPairs (suc k) before b ≡ refused n → RefusedAt before b k n
+refused-by before b k n (Taken p taken) e h = later p taken e (rest-refused p (readPairs k (behind p) (drop taken b)) n (sym (taken-first before b k e) ∙ h))
+refused-by before b k n (Stopped m) e h = first (let k′ = sym (stopped-first before b k e) ∙ h in let z : m ≡ n = cc in rw z at e)
+
+pub refused-at : (before : Before) (b : List ℕ) (k n : ℕ) → readPairs (suc k) before b ≡ refused n → RefusedAt before b k n
+refused-at before b k n h = refused-by before b k n (readPair before b) refl h
+
+over-by : (n : ℕ) (t : Bool) → cond t (pairs []) (refused 21) ≡ refused n → (t ≡ false) × (n ≡ 21)
+over-by n true h = absurd (let z : _≡_ {A = ℕ} 0 1 = cc in omega arith)
+over-by n false h = (refl, cc)
+
+-- no pair is left, and bytes are
+pub over-end : (before : Before) (b : List ℕ) (n : ℕ) → readPairs 0 before b ≡ refused n → (length b ≡ 0 → ⊥) × (n ≡ 21)
+unfolding readPairs
+over-end before b n h = let e = over-by n (eqb (length b) 0) h in (eqb-false (length b) 0 (e .0), e .1)
+
+pub end-over : (before : Before) (b : List ℕ) → (length b ≡ 0 → ⊥) → readPairs 0 before b ≡ refused 21
+unfolding readPairs
+end-over before b h = rw (ne-eqb (length b) 0 h)
 
 pub length-read : (n : ℕ) (before : Before) (b : List ℕ) (ps : List Pair) → readPairs n before b ≡ pairs ps → length ps ≡ n
 length-read zero before b ps h = ap length (ended before b ps h .1)

@@ -16,7 +16,7 @@ use Rattle.spec.specs.File.{word}
 use Rattle.cyclefile.specs.File.{Before, none, behind, hasGap, hasSize, fieldLength, bytesTaken, lastPair, pairAt, mapIsWrong, standsInVain, readPair, PairRead, Taken, Stopped}
 use Rattle.cyclefile.specs.InnerPromises.{beforeIs, wrongHere, fieldOf, inVain, stoppedBy, stepOf}
 use Rattle.cyclefile.proofs.Fields.{wrong-flag, stands-flag}
-use Rattle.cyclefile.proofs.OnePair.{no-map, wrong-map, field-cut, in-vain, taken}
+use Rattle.cyclefile.proofs.OnePair.{no-map, wrong-map, field-cut, in-vain, taken, stopped-number}
 
 word-drop : (n : ℕ) (l : List ℕ) (i : ℕ) → word (drop n l) i ≡ word l (n + i)
 word-drop n l i = rw (getD-drop, getD-drop, add-assoc)
@@ -106,19 +106,6 @@ module _ (file : List ℕ) (i : ℕ) (first : Bool) (g s : ℕ) where
 
 -- ---- what a step tells
 
--- no refusal is 0
-stop-by : (t₁ t₂ t₃ t₄ : Bool) (p : Pair) (k : ℕ) → cond t₁ (Stopped 18) (cond t₂ (Stopped 17) (cond t₃ (Stopped 18) (cond t₄ (Stopped 19) (Taken p k)))) ≡ Stopped 0 → ⊥
-stop-by true t₂ t₃ t₄ p k h = let z : _≡_ {A = ℕ} 18 0 = cc in omega arith
-stop-by false true t₃ t₄ p k h = let z : _≡_ {A = ℕ} 17 0 = cc in omega arith
-stop-by false false true t₄ p k h = let z : _≡_ {A = ℕ} 18 0 = cc in omega arith
-stop-by false false false true p k h = let z : _≡_ {A = ℕ} 19 0 = cc in omega arith
-stop-by false false false false p k h = let z : _≡_ {A = ℕ} 0 1 = cc in omega arith
-
-never-by-0 : (before : Before) (b : List ℕ) → readPair before b ≡ Stopped 0 → ⊥
-unfolding readPair
-never-by-0 before b h =
-    stop-by (eqb (length b) 0) (mapIsWrong before (getD b 0 0)) (ltb (length b) (bytesTaken (getD b 0 0))) (standsInVain before (getD b 0 0) (pairAt (lastPair before) b)) (pairAt (lastPair before) b) (bytesTaken (getD b 0 0)) h
-
 module _ (before : Before) (b : List ℕ) (i : ℕ) (r : Step) (is : r ≡ stepOf i (readPair before b)) where
   -- where the number is 0, a pair was taken
   pub record Stepped : Type 0 where
@@ -134,7 +121,7 @@ module _ (before : Before) (b : List ℕ) (i : ℕ) (r : Step) (is : r ≡ stepO
   stepped-by (Stopped n) e z =
       let k : r ≡ stoppedBy n = is ∙ ap (stepOf i) e in
       let n-is : n ≡ 0 = sym (ap (λ (x : Step). x .number) k) ∙ z in
-      absurd (never-by-0 before b (e ∙ ap Stopped n-is))
+      absurd (omega (arith, stopped-number before b n e .0))
 
   pub stepped : r .number ≡ 0 → Stepped
   stepped z = stepped-by (readPair before b) refl z

@@ -1,5 +1,5 @@
--- Reading a whole file, by cases: what `readCycle` and `storedPairs` are where each test of them went one way, what is known where they
--- give pairs, and that more than 512 places change nothing. Assumes nothing.
+-- Reading a whole file, by how it begins: what `readCycle` and `storedPairs` are where each test of them went one way, what is known where
+-- they give pairs, and that more than 512 places change nothing. Assumes nothing.
 use mathlib.Core.Path.{_≡_, refl, sym, _∙_}
 use Prim.Native.Nat.{ℕ, _≤_, _<_, min}
 use native.Mathlib.Omega.{arith}
@@ -58,6 +58,22 @@ enough-by a b n false e h = let j = ltb-false a n e in let k = ltb-false b n h i
 pub enough-of-two : (a b n : ℕ) → (ltb a n || ltb b n) ≡ false → n ≤ min a b
 enough-of-two a b n h = enough-by a b n (ltb a n) refl h
 
+-- how a file begins: one of the four
+pub data Beginning (places : ℕ) (file : List ℕ) : Type 0 where
+  cut : length file < 2 → Beginning places file
+  miscounted : 2 ≤ length file → countIn (word file 0) ≡ false → Beginning places file
+  crowded : 2 ≤ length file → countIn (word file 0) ≡ true → places < word file 0 → Beginning places file
+  begun : 2 ≤ length file → countIn (word file 0) ≡ true → word file 0 ≤ places → Beginning places file
+
+begins-by : (places : ℕ) (file : List ℕ) (short counted few : Bool) → ltb (length file) 2 ≡ short → countIn (word file 0) ≡ counted → ltb places (word file 0) ≡ few → Beginning places file
+begins-by places file true counted few e₁ e₂ e₃ = cut (ltb-true _ _ e₁)
+begins-by places file false false few e₁ e₂ e₃ = miscounted (ltb-false _ _ e₁) e₂
+begins-by places file false true true e₁ e₂ e₃ = crowded (ltb-false _ _ e₁) e₂ (ltb-true _ _ e₃)
+begins-by places file false true false e₁ e₂ e₃ = begun (ltb-false _ _ e₁) e₂ (ltb-false _ _ e₃)
+
+pub begins : (places : ℕ) (file : List ℕ) → Beginning places file
+begins places file = begins-by places file (ltb (length file) 2) (countIn (word file 0)) (ltb places (word file 0)) refl refl refl
+
 -- ---- a file that reads as pairs
 
 pub record WholeRead (places : ℕ) (file : List ℕ) (ps : List Pair) : Type 0 where
@@ -66,17 +82,14 @@ pub record WholeRead (places : ℕ) (file : List ℕ) (ps : List Pair) : Type 0 
   pub room : word file 0 ≤ places
   pub reads : readPairs (word file 0) none (drop 2 file) ≡ pairs ps
 
-accepted-by : (places : ℕ) (file : List ℕ) (ps : List Pair) → readCycle places file ≡ pairs ps → (short counted few : Bool)
-    → ltb (length file) 2 ≡ short → countIn (word file 0) ≡ counted → ltb places (word file 0) ≡ few → WholeRead places file ps
-accepted-by places file ps h true counted few e₁ e₂ e₃ = absurd (let k = no-count places file (ltb-true _ _ e₁) .0 in let z : _≡_ {A = ℕ} 0 1 = cc in omega arith)
-accepted-by places file ps h false false few e₁ e₂ e₃ = absurd (let k = bad-count places file (ltb-false _ _ e₁) e₂ .0 in let z : _≡_ {A = ℕ} 0 1 = cc in omega arith)
-accepted-by places file ps h false true true e₁ e₂ e₃ = absurd (let k = few-places places file (ltb-false _ _ e₁) e₂ (ltb-true _ _ e₃) .0 in let z : _≡_ {A = ℕ} 0 1 = cc in omega arith)
-accepted-by places file ps h false true false e₁ e₂ e₃ =
-    let k = pair-by-pair places file (ltb-false _ _ e₁) e₂ (ltb-false _ _ e₃) .0 in
-    record { long = ltb-false _ _ e₁; counted = e₂; room = ltb-false _ _ e₃; reads = (cc) }
+accepted-by : (places : ℕ) (file : List ℕ) (ps : List Pair) → readCycle places file ≡ pairs ps → Beginning places file → WholeRead places file ps
+accepted-by places file ps h (cut short) = absurd (let k = no-count places file short .0 in let z : _≡_ {A = ℕ} 0 1 = cc in omega arith)
+accepted-by places file ps h (miscounted long wrong) = absurd (let k = bad-count places file long wrong .0 in let z : _≡_ {A = ℕ} 0 1 = cc in omega arith)
+accepted-by places file ps h (crowded long right few) = absurd (let k = few-places places file long right few .0 in let z : _≡_ {A = ℕ} 0 1 = cc in omega arith)
+accepted-by places file ps h (begun long right room) = record { long = long; counted = right; room = room; reads = sym (pair-by-pair places file long right room .0) ∙ h }
 
 pub accepted : (places : ℕ) (file : List ℕ) (ps : List Pair) → readCycle places file ≡ pairs ps → WholeRead places file ps
-accepted places file ps h = accepted-by places file ps h (ltb (length file) 2) (countIn (word file 0)) (ltb places (word file 0)) refl refl refl
+accepted places file ps h = accepted-by places file ps h (begins places file)
 
 -- ---- what the answer tells
 

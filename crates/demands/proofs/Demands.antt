@@ -1,5 +1,5 @@
--- All three demands, each from the crate that proves it. New here are the bytes of any length, and the loader's call: by what the two
--- files are read to, its number is 0 only where both are read and the check's number is 0.
+-- All three demands, each from the crate that proves it. New here is the loader's call: by what the two files are read to, its number is
+-- 0 only where both are read and the check's number is 0.
 use Prim.Native.Nat.{ℕ, _≤_, _<_}
 use native.Mathlib.Omega.{arith}
 use mathlib.Core.Path.{_≡_, refl}
@@ -28,10 +28,11 @@ use Rattle.cycle.specs.Cycles.{cycleRun}
 use Rattle.cycle.proofs.CyclesPassed.{passed-obeys}
 use Rattle.cyclefile.specs.File.{CycleRead, pairs, refused, readCycle, writeNumber, Reads, bytesAfter}
 use Rattle.cyclefile.proofs.RoundTrip.{reads-back, writes-back, reads-cycles}
+use Rattle.cyclefile.proofs.Refusals.{CycleRefusal, cycle-numbered}
+use Rattle.cyclefile.proofs.CutOrOver.{cut-off, number-stays, over-refused, over-whole}
 use Rattle.cyclefile.proofs.WrittenBytes.{writes-bytes}
 use Rattle.maxeltu.specs.Verdict.{verdictRead, verdictOf}
 use Rattle.demands.specs.Demands.{Demands}
-use Rattle.demands.proofs.Readings.{CycleRefusal, cycle-numbered}
 
 -- a cycle's file, by what it is read to
 cycle-is-read : (places : ℕ) (file : List ℕ) (r : CycleRead) → readCycle places file ≡ r
@@ -82,11 +83,18 @@ module _ (spec cycle : List ℕ) where
       let n = reads-cycles 512 cycle c e in
       rw (a, e) (passed-obeys s c (accepted s a (spec-is-read spec)) (n .0) (n .1) .1 o)
 
+passes-on : (spec cycle : List ℕ) (s : Spec) (n : ℕ) → readSpec spec ≡ Accepted s → readCycle 512 cycle ≡ refused n → verdictOf spec cycle ≡ n
+unfolding verdictOf verdictRead
+passes-on spec cycle s n a e = rw (a, e)
+
 pub demands : Demands
 unfolding Loaded
 demands = record {
   specification-read = spec-is-read;
   cycle-read = λ places file. cycle-is-read places file (readCycle places file) refl;
+  cut-off = cut-off;
+  bytes-over = λ places file. (over-whole places file, λ (front, (over, (c, (e, (reads, some))))). rw e (over-refused places front over c reads some));
+  number-stays = number-stays;
   refused-list-kept = λ file held held′ count count′ n. list-kept (readCycle (length held) file) held held′ count count′ n;
   refused-bytes-kept = bytes-kept;
   stretch-sum = stretch-is-sum;
@@ -103,4 +111,5 @@ demands = record {
   even-longest = even-plan-longest;
   even-refused = even-plan-refused;
   verdict-exact = λ spec cycle. (zero-loaded spec cycle (spec-is-read spec), loaded-zero spec cycle);
+  verdict-passes-on = passes-on;
 }

@@ -1,2 +1,1 @@
-pub mod Readings
 pub mod Demands

@@ -4,8 +4,8 @@ use Prim.Native.Nat.{ℕ, _+_, _/_, _≤_, _<_}
 use mathlib.Core.Path.{_≡_}
 use mathlib.Core.Logic.{_↔_, _⊎_}
 use mathlib.Core.Bool.{true}
-use mathlib.Core.List.{List}
-use lib.ListN.{length}
+use mathlib.Core.List.{List, _++_}
+use lib.ListN.{length, take}
 use Rattle.spec.specs.declared.Spec.{Spec}
 use Rattle.spec.specs.declared.Rates.{Rates}
 use Rattle.spec.specs.declared.BothRates.the-variants.{Both}
@@ -41,6 +41,14 @@ pub record Demands : Type 0 where
   pub cycle-read : (places : ℕ) (file : List ℕ)
       → ((c : List Pair) × ((readCycle places file ≡ pairs c) × ((1 ≤ length c) × ((length c ≤ 512) × (length c ≤ places)))))
       ⊎ ((n : ℕ) × ((readCycle places file ≡ refused n) × ((n ≡ 12) ⊎ ((17 ≤ n) × (n ≤ 21)))))
+  -- Cut off or too long (document 02, Req 01). A file that is read, cut off anywhere, gets 18.
+  pub cut-off : (places : ℕ) (file : List ℕ) (c : List Pair) (n : ℕ) → readCycle places file ≡ pairs c → n < length file → readCycle places (take n file) ≡ refused 18
+  -- 21 is given exactly to a file that is read, with bytes behind it
+  pub bytes-over : (places : ℕ) (file : List ℕ)
+      → (readCycle places file ≡ refused 21)
+      ↔ ((front : List ℕ) × ((over : List ℕ) × ((c : List Pair) × ((file ≡ front ++ over) × ((readCycle places front ≡ pairs c) × (0 < length over))))))
+  -- a number other than 18 stays, whatever bytes follow: a file with a wrong pair and bytes over gets the pair's number
+  pub number-stays : (places : ℕ) (file more : List ℕ) (n : ℕ) → readCycle places file ≡ refused n → ¬ (n ≡ 18) → readCycle places (file ++ more) ≡ refused n
   pub refused-list-kept : (file : List ℕ) (held held′ : List Pair) (count count′ n : ℕ)
       → Reads (readCycle (length held) file) held count n held′ count′ → 0 < n → (held′ ≡ held) × (count′ ≡ count)
   pub refused-bytes-kept : (c : List Pair) (held : List ℕ)
@@ -81,3 +89,5 @@ pub record Demands : Type 0 where
   pub verdict-exact : (spec cycle : List ℕ)
       → (verdictOf spec cycle ≡ 0)
       ↔ ((s : Spec) × ((c : List Pair) × ((readSpec spec ≡ Accepted s) × ((readCycle 512 cycle ≡ pairs c) × Obeys s (cycleRun c)))))
+  -- and passes the number of a cycle file that is refused through
+  pub verdict-passes-on : (spec cycle : List ℕ) (s : Spec) (n : ℕ) → readSpec spec ≡ Accepted s → readCycle 512 cycle ≡ refused n → verdictOf spec cycle ≡ n
