@@ -1,7 +1,7 @@
 -- The cycle file, written and read. Document 01, "Cycles", "Cycle file": "The count, 2 bytes high first. Then per pair one byte of bit map
 -- (bit 0 gap, bit 1 size) and 2 bytes for each bit that stands, gap before size, high byte first. The first pair has both fields. After it, a
 -- field left out equals the pair's before it, and it is left out exactly when equal."
--- And "What each operation turns down, in order", "Reading a cycle" and "Writing a cycle".
+-- And "What each operation turns down, in order", "Reading a cycle" and "Writing a cycle"; document 02, Req 01, "Cut off or too long".
 use Prim.Native.Nat.{ℕ, zero, suc, _+_, _/_, _%_, _<_}
 use mathlib.Core.Path.{_≡_}
 use mathlib.Core.List.{List, [], _∷_, _++_}
@@ -124,7 +124,7 @@ abbrev pub withFirst : Pair → CycleRead → CycleRead
 withFirst p (pairs ps) = pairs (p ∷ ps)
 withFirst p (refused n) = refused n
 
--- n pairs, and last of all (document 02, Req 01) "21 bytes over, at the place where document 01 has its last 18"
+-- n pairs; then, last of all, document 02, Req 01: "21 bytes over, at the place where document 01 has its last 18"
 unfoldable pub readPairs : ℕ → Before → List ℕ → CycleRead
 readPairs zero before b = cond (eqb (length b) 0) (pairs []) (refused 21)
 readPairs (suc n) before b = afterPair (readPair before b) refused (λ (p : Pair) (taken : ℕ). withFirst p (readPairs n (behind p) (drop taken b)))
