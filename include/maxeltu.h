@@ -82,9 +82,10 @@ enum maxeltu_refusal {
 
     /* A cycle's file, and the room lent for a cycle or its file. */
     MAXELTU_PAIR_MAP = 17,        /* a pair's bit map has bit 2 to 7, or the first pair lacks a field */
-    MAXELTU_FILE_LENGTH = 18,     /* the file is cut, or has bytes over */
+    MAXELTU_FILE_CUT = 18,        /* the file ends early: under 2 bytes, no map byte, or a field is cut. Fetch it again */
     MAXELTU_FIELD_REPEATED = 19,  /* a field that should have been left out: it equals the one before */
-    MAXELTU_NO_ROOM = 20          /* the lent list or the lent bytes are too few */
+    MAXELTU_NO_ROOM = 20,         /* the lent list or the lent bytes are too few */
+    MAXELTU_BYTES_OVER = 21       /* bytes follow the last pair, and every pair is right. Write to the carrier */
 };
 
 /* Limits. Each value of a specification is at least 1 and at most: */
@@ -122,7 +123,7 @@ struct maxeltu_pair {
  * Answers 0 where the cycle obeys the specification; 1 to 4 for the
  * specification; then for the cycle file, as maxeltu_read_cycle does with 512
  * places: 18 where it has under 2 bytes, 12, then pair by pair 18, 17, 18, 19,
- * last 18 where bytes are left over; then 13 to 16, as maxeltu_check_cycle does.
+ * last 21 where bytes are left over; then 13 to 16, as maxeltu_check_cycle does.
  * Writes nothing.
  */
 uint32_t maxeltu_verdict(const uint8_t *spec, size_t spec_len,
@@ -232,7 +233,9 @@ uint32_t maxeltu_check_cycle(const uint8_t *spec, size_t spec_len,
  * Answers 0; 18 where the file has under 2 bytes; 12 where its count is 0 or
  * above 512; 20 where places are fewer than the count; then pair by pair 18 no
  * map byte, 17 a bad map, 18 a field that is cut, 19 a field that should be left
- * out; last 18 where bytes are left over.
+ * out; last 21 where bytes are left over.
+ * So a file that reads with 0 gets 18 wherever it is cut off, and 21 with any
+ * bytes behind it; a file with a wrong pair keeps that pair's number with them.
  * Writes the pairs to the first *count places, and *count. Places past the
  * count keep their contents; so do all places where the answer is not 0.
  */

@@ -47,10 +47,12 @@ static const char *words(uint32_t refusal)
         return "some stretch of P minutes is too thin: less than the demand L";
     case MAXELTU_PAIR_MAP:
         return "a pair of the cycle file has a wrong bit map";
-    case MAXELTU_FILE_LENGTH:
-        return "the cycle file is cut, or has bytes over";
+    case MAXELTU_FILE_CUT:
+        return "the cycle file ends early: fetch it again";
     case MAXELTU_FIELD_REPEATED:
         return "the cycle file repeats a field that should be left out";
+    case MAXELTU_BYTES_OVER:
+        return "the cycle file has bytes after the last pair: write to the carrier";
     default:
         return "no meaning known to this loader";
     }

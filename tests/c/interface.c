@@ -347,27 +347,32 @@ static void reading_cycles(void)
     CHECK(pairs[2].gap == 53 && pairs[2].size == 5 && pairs_untouched_from(3));
     CHECK(read_cycle(BYTES(0, 2, 3, 0xFF, 0xFF, 0, 0, 0), MAXELTU_MAX_PAIRS) == 0 && hold(1, 2));
     CHECK(pairs[1].gap == 0xFFFF && pairs[1].size == 0 && pairs_untouched_from(2));
-    CHECK(read_refused(MAXELTU_FILE_LENGTH, BYTES(9), 512));
-    CHECK(read_refused(MAXELTU_FILE_LENGTH, (const uint8_t[]){ 0 }, 0, 512));
+    CHECK(read_refused(MAXELTU_FILE_CUT, BYTES(9), 512));
+    CHECK(read_refused(MAXELTU_FILE_CUT, (const uint8_t[]){ 0 }, 0, 512));
     CHECK(read_refused(MAXELTU_COUNT, BYTES(0, 0), 0));
     CHECK(read_refused(MAXELTU_COUNT, BYTES(2, 1), 0));
     CHECK(read_refused(MAXELTU_COUNT, BYTES(2, 1, 3, 0, 5, 0, 2), sizeof pairs / sizeof *pairs));
     CHECK(read_refused(MAXELTU_NO_ROOM, BYTES(0, 2), 1));
     CHECK(read_refused(MAXELTU_NO_ROOM, BYTES(0, 1, 9), 0));
-    CHECK(read_refused(MAXELTU_FILE_LENGTH, BYTES(0, 2), 2));
+    CHECK(read_refused(MAXELTU_FILE_CUT, BYTES(0, 2), 2));
     CHECK(read_refused(MAXELTU_PAIR_MAP, BYTES(0, 1, 7, 0, 5, 0, 2), 512));
     CHECK(read_refused(MAXELTU_PAIR_MAP, BYTES(0, 1, 1, 0, 5), 512));
     CHECK(read_refused(MAXELTU_PAIR_MAP, BYTES(0, 1, 2), 512));
     CHECK(read_refused(MAXELTU_PAIR_MAP, BYTES(0, 1, 0), 512));
     CHECK(read_refused(MAXELTU_PAIR_MAP, BYTES(0, 2, 3, 0, 5, 0, 2, 0x80), 512));
-    CHECK(read_refused(MAXELTU_FILE_LENGTH, BYTES(0, 1, 3, 0, 5, 0), 512));
-    CHECK(read_refused(MAXELTU_FILE_LENGTH, BYTES(0, 2, 3, 0, 5, 0, 2), 512));
+    CHECK(read_refused(MAXELTU_FILE_CUT, BYTES(0, 1, 3, 0, 5, 0), 512));
+    CHECK(read_refused(MAXELTU_FILE_CUT, BYTES(0, 2, 3, 0, 5, 0, 2), 512));
     /* A cut field comes before one that should be left out. */
-    CHECK(read_refused(MAXELTU_FILE_LENGTH, BYTES(0, 2, 3, 0, 5, 0, 2, 3, 0, 5), 512));
+    CHECK(read_refused(MAXELTU_FILE_CUT, BYTES(0, 2, 3, 0, 5, 0, 2, 3, 0, 5), 512));
     CHECK(read_refused(MAXELTU_FIELD_REPEATED, BYTES(0, 2, 3, 0, 5, 0, 2, 3, 0, 5, 0, 3), 512));
     CHECK(read_refused(MAXELTU_FIELD_REPEATED, BYTES(0, 2, 3, 0, 5, 0, 2, 2, 0, 2), 512));
     CHECK(read_refused(MAXELTU_FIELD_REPEATED, BYTES(0, 2, 3, 0, 5, 0, 2, 1, 0, 5, 0), 512));
-    CHECK(read_refused(MAXELTU_FILE_LENGTH, BYTES(0, 1, 3, 0, 5, 0, 2, 0), 512));
+    CHECK(read_refused(MAXELTU_BYTES_OVER, BYTES(0, 1, 3, 0, 5, 0, 2, 0), 512));
+    CHECK(read_refused(MAXELTU_BYTES_OVER, BYTES(0, 2, 3, 0, 5, 0, 2, 0, 1, 0, 6), 512));
+    /* Bytes over come last of all: after the places, and after every pair. */
+    CHECK(read_refused(MAXELTU_NO_ROOM, BYTES(0, 2, 3, 0, 5, 0, 2, 0, 9), 1));
+    CHECK(read_refused(MAXELTU_PAIR_MAP, BYTES(0, 2, 3, 0, 5, 0, 2, 4, 9), 512));
+    CHECK(read_refused(MAXELTU_FIELD_REPEATED, BYTES(0, 2, 3, 0, 5, 0, 2, 1, 0, 5, 9), 512));
     end();
 }
 
@@ -423,10 +428,10 @@ static void null_for_empty(void)
     uint8_t file[8];
     fill_places();
     CHECK(maxeltu_verdict(NULL, 0, NULL, 0) == MAXELTU_SPEC_MAP);
-    CHECK(maxeltu_verdict(SPEC(b15), NULL, 0) == MAXELTU_FILE_LENGTH);
+    CHECK(maxeltu_verdict(SPEC(b15), NULL, 0) == MAXELTU_FILE_CUT);
     CHECK(maxeltu_even_plan(NULL, 0, &places[0], &places[1], &places[2]) == MAXELTU_SPEC_MAP);
     CHECK(maxeltu_check_cycle(SPEC(b15), NULL, 0) == MAXELTU_COUNT);
-    CHECK(maxeltu_read_cycle(NULL, 0, NULL, 0, &places[0]) == MAXELTU_FILE_LENGTH);
+    CHECK(maxeltu_read_cycle(NULL, 0, NULL, 0, &places[0]) == MAXELTU_FILE_CUT);
     CHECK(maxeltu_read_cycle(BYTES(0, 1, 3, 0, 5, 0, 2), NULL, 0, &places[0]) == MAXELTU_NO_ROOM);
     CHECK(maxeltu_write_cycle(NULL, 0, file, sizeof file, &places[0]) == MAXELTU_COUNT);
     CHECK(maxeltu_write_cycle(&(struct maxeltu_pair){ .gap = 5, .size = 2 }, 1, NULL, 0, &places[0]) == MAXELTU_NO_ROOM);

@@ -9,7 +9,7 @@ use reference::schedule::{obeys, LAID_OUT};
 use reference::{cycle, even, file, plan, spec, verdict, Kind, Pair, Plan, Refusal, Spec};
 
 pub fn all(runner: &mut Runner) {
-    runner.random("verdict", RUNS, &[0, 1, 2, 3, 4, 12, 13, 14, 15, 16, 17, 18, 19], verdict_case);
+    runner.random("verdict", RUNS, &[0, 1, 2, 3, 4, 12, 13, 14, 15, 16, 17, 18, 19, 21], verdict_case);
     runner.random("consistency", RUNS, &[0, 1, 2, 3, 4, 73, 74, 75, 76], consistency_case);
     runner.random("minimum demand", RUNS, &[0, 1, 2, 3, 4, 5, 6], min_demand_case);
     runner.random("maximum supply", RUNS, &[0, 1, 2, 3, 4, 5, 6], max_supply_case);
@@ -19,7 +19,8 @@ pub fn all(runner: &mut Runner) {
     runner.random("even plan, size lists searched", RUNS / 4, &[0, 10], even_search_case);
     runner.random("report", RUNS, &[0, 11], report_case);
     runner.random("check cycle", RUNS, &[0, 1, 2, 3, 4, 12, 13, 14, 15, 16], check_case);
-    runner.random("read cycle", RUNS, &[0, 12, 17, 18, 19, 20], read_case);
+    runner.random("read cycle", RUNS, &[0, 12, 17, 18, 19, 20, 21], read_case);
+    runner.random("read cycle, cut off or too long", RUNS, &[12, 17, 18, 19, 20, 21], cut_or_over_case);
     runner.random("write cycle", RUNS, &[0, 12, 20], write_case);
     runner.random("plans obey the rules", RUNS / 2, &[0, 1, 2], obeying_case);
 }
@@ -351,6 +352,29 @@ fn read_case(random: &mut Random, library: &mut Library) -> Verdict {
     let wanted = expected(made.map(|pairs| [pairs.len() as u64]), held);
     let got = library.read_cycle(&file, &before, held[0]);
     same(wanted.answer, got, (wanted, wanted_pairs), || format!("{} places {places}", hex(&file)))
+}
+
+/// A file that is read gets 18 wherever it is cut off, and 21 with bytes behind it; one that is refused for something else than
+/// its end keeps its number with them.
+fn cut_or_over_case(random: &mut Random, library: &mut Library) -> Verdict {
+    let sound = generate::cycle_file(random);
+    let mut file = if random.once_in(2) { stray_map(random, sound) } else { sound };
+    let before = vec![some_pair(random); random.pick(&[1, 20, 512, 513])];
+    let held = random.places::<1>();
+    let answer = match file::read(&file, before.len()) {
+        Ok(_) if random.once_in(2) => {
+            file.truncate(random.below(file.len() as u64) as usize);
+            18
+        }
+        Ok(_) => 21,
+        Err(answer) => answer,
+    };
+    if answer != 18 {
+        let over = random.pick(&[1, 1, 2, 5, 600]);
+        file.extend((0..over).map(|_| random.next() as u8));
+    }
+    let wanted = (Outcome { answer, places: held }, before.clone());
+    same(answer, library.read_cycle(&file, &before, held[0]), wanted, || format!("{} places {}", hex(&file), before.len()))
 }
 
 /// Spoils one pair of a sound file: its map byte, a field that should be left out, or a cut just there.

@@ -13,6 +13,7 @@ pub fn all(runner: &mut Runner) {
     checks::group(runner, "edges of the even plan", even_plan);
     checks::group(runner, "edges of a cycle's ranges", ranges);
     checks::group(runner, "stretches just full and just thin", stretches);
+    checks::group(runner, "cycle files cut off and too long", cut_or_over);
 }
 
 fn consistency(checks: &mut Checks) {
@@ -305,5 +306,40 @@ fn stretches(checks: &mut Checks) {
         ("19,999 in 19,999 minutes", thin(20_000, 19_999), (1, 1), 16),
     ] {
         checks.cycle(name, &spec, &[pair], wanted);
+    }
+}
+
+fn cut_or_over(checks: &mut Checks) {
+    let spec = no_rates((2, 3), (5, 6));
+    let whole = [0, 2, 3, 0, 5, 0, 3, 3, 0, 6, 0, 2];
+    let pairs = [(5, 3), (6, 2)];
+    let longest = [vec![2, 0], [3, 0, 5, 0, 3, 3, 0, 6, 0, 2].repeat(256)].concat();
+    checks.read("whole", &whole, 2, Ok(&pairs));
+    for (name, file, pairs) in [("two pairs", &whole[..], &pairs[..]), ("512 pairs", &longest, &pairs.repeat(256))] {
+        checks.verdict(name, &spec, file, 0);
+        checks.read(name, file, pairs.len(), Ok(pairs));
+        for length in 0..file.len() {
+            checks.verdict(&format!("{name}, {length} bytes of them"), &spec, &file[..length], 18);
+            checks.read(&format!("{name}, {length} bytes of them"), &file[..length], 512, Err(18));
+        }
+        // Bytes that could be a map, a pair, the file once more, and more than any file has.
+        for over in [&[0][..], &[3], &[255], &[1, 0, 5], file, &[0; 5_000]] {
+            let name = format!("{name} and {} bytes over", over.len());
+            checks.verdict(&name, &spec, &[file, over].concat(), 21);
+            checks.read(&name, &[file, over].concat(), 512, Err(21));
+        }
+    }
+    // What comes before 21.
+    let rows: [(&str, &[u8], usize, u32); 7] = [
+        ("no pair", &[0, 0, 3], 512, 12),
+        ("513 pairs", &[2, 1, 3], 512, 12),
+        ("too few places", &[0, 2, 3, 0, 5, 0, 3, 3, 0, 6, 0, 2, 0], 1, 20),
+        ("a first pair without its size", &[0, 1, 1, 0, 5, 0], 512, 17),
+        ("a last map with bit 2", &[0, 2, 3, 0, 5, 0, 3, 7, 0, 6, 0, 2, 0], 512, 17),
+        ("a last gap repeated", &[0, 2, 3, 0, 5, 0, 3, 3, 0, 5, 0, 2, 0], 512, 19),
+        ("a last size repeated", &[0, 2, 3, 0, 5, 0, 3, 2, 0, 3, 0], 512, 19),
+    ];
+    for (name, file, places, wanted) in rows {
+        checks.read(&format!("{name}, and bytes over"), file, places, Err(wanted));
     }
 }

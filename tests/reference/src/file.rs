@@ -1,4 +1,4 @@
-//! Document 01, "Cycle file", "Reading a cycle" and "Writing a cycle".
+//! Document 01, "Cycle file", "Reading a cycle" and "Writing a cycle"; document 02, Req 01: bytes after the last pair.
 
 use crate::{Pair, Refusal};
 
@@ -46,7 +46,7 @@ pub fn read(file: &[u8], places: usize) -> Result<Vec<Pair>, Refusal> {
     if rest.0.is_empty() {
         Ok(pairs)
     } else {
-        Err(18)
+        Err(21)
     }
 }
 
