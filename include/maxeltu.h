@@ -82,10 +82,10 @@ enum maxeltu_refusal {
 
     /* A cycle's file, and the room lent for a cycle or its file. */
     MAXELTU_PAIR_MAP = 17,        /* a pair's bit map has bit 2 to 7, or the first pair lacks a field */
-    MAXELTU_FILE_CUT = 18,        /* the file ends early: under 2 bytes, no map byte, or a field is cut. Fetch it again */
+    MAXELTU_FILE_CUT = 18,        /* the file ends early, in its count, a map byte or a field: fetch it again */
     MAXELTU_FIELD_REPEATED = 19,  /* a field that should have been left out: it equals the one before */
     MAXELTU_NO_ROOM = 20,         /* the lent list or the lent bytes are too few */
-    MAXELTU_BYTES_OVER = 21       /* bytes follow the last pair, and every pair is right. Write to the carrier */
+    MAXELTU_BYTES_OVER = 21       /* bytes follow the last pair, and all pairs are right: write to the carrier */
 };
 
 /* Limits. Each value of a specification is at least 1 and at most: */

@@ -62,9 +62,10 @@ module _ (before : Before) (a more : List ℕ) where
   same-pair h = same-by (eqb (length a) 0) (mapIsWrong before m) (ltb (length a) (bytesTaken m)) refl refl refl h
 
   -- a pair that is read from a longer list is read from a front that has its bytes
-  pair-of-front : (p : Pair) (n : ℕ) → readPair before (a ++ more) ≡ Taken p n → n ≤ length a → (1 ≤ n) → readPair before a ≡ Taken p n
-  pair-of-front p n h long pos =
+  pair-of-front : (p : Pair) (n : ℕ) → readPair before (a ++ more) ≡ Taken p n → n ≤ length a → readPair before a ≡ Taken p n
+  pair-of-front p n h long =
       let t = took before (a ++ more) p n h in
+      let pos = taken-some before (a ++ more) p n h in
       let e : getD (a ++ more) 0 0 ≡ m = map-front (λ z. omega arith) in
       let taken : n ≡ bytesTaken m = t .taken-is ∙ ap bytesTaken e in
       sym (whole-pair (omega (arith, taken))) ∙ h
@@ -117,7 +118,7 @@ read-and-over (suc k) before b h =
           let whole : b ≡ (take taken b ++ r .front) ++ r .over =
           sym (take-append-drop taken b) ∙ ap (λ (l : List ℕ). take taken b ++ l) (r .parts) ∙ sym (append-assoc (take taken b) (r .front) (r .over)) in
           let long : length (take taken b) ≡ taken = length-take-le taken b (taken-within before b p taken e) in
-          let head = pair-of-front before (take taken b ++ r .front) (r .over) p taken (ap (readPair before) (sym whole) ∙ e) (omega (arith, long, length-append (take taken b) (r .front))) (taken-some before b p taken e) in
+          let head = pair-of-front before (take taken b ++ r .front) (r .over) p taken (ap (readPair before) (sym whole) ∙ e) (omega (arith, long, length-append (take taken b) (r .front))) in
           record {
             front = take taken b ++ r .front;
             over = r .over;
@@ -151,7 +152,7 @@ pairs-cut (suc k) before b ps n h short =
     elim (decLt n (s .taken)) [
       | yes early ↦ stopped-first before (take n b) k (pair-cut before b (s .head) (s .taken) n (s .head-read) early)
       | no late ↦
-          let head = pair-of-front before (take n b) (drop n b) (s .head) (s .taken) (ap (readPair before) (take-append-drop n b) ∙ s .head-read) (omega (arith, length-take-le n b (omega arith))) (taken-some before b (s .head) (s .taken) (s .head-read)) in
+          let head = pair-of-front before (take n b) (drop n b) (s .head) (s .taken) (ap (readPair before) (take-append-drop n b) ∙ s .head-read) (omega (arith, length-take-le n b (omega arith))) in
           taken-first before (take n b) k head
           ∙ ap (λ (l : List ℕ). withFirst (s .head) (readPairs k (behind (s .head)) l)) (drop-take (s .taken) n b (omega arith) within)
           ∙ ap (withFirst (s .head)) (pairs-cut k (behind (s .head)) (drop (s .taken) b) (s .tail) (n - s .taken) (s .tail-read) (omega (arith, length-drop (s .taken) b)))
