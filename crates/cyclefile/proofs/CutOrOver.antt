@@ -14,7 +14,7 @@ use borrow.Author.Tests.{eqb-true, eqb-false, ltb-true, ltb-false, ne-eqb, le-lt
 use Rattle.spec.specs.File.{word}
 use Rattle.pairs.specs.declared.Pair.{Pair}
 use Rattle.pairs.specs.Pairs.{countIn}
-use Rattle.cyclefile.specs.File.{Before, none, behind, CycleRead, pairs, refused, Taken, Stopped, hasGap, hasSize, mapIsWrong, fieldLength, bytesTaken, lastPair, pairAt, withFirst, readPair, readPairs, readCycle}
+use Rattle.cyclefile.specs.File.{Before, none, behind, pairs, refused, Taken, Stopped, hasGap, hasSize, mapIsWrong, fieldLength, bytesTaken, lastPair, pairAt, withFirst, readPair, readPairs, readCycle}
 use Rattle.cyclefile.proofs.OnePair.{took, taken-some, taken-within, stopped-number}
 use Rattle.cyclefile.proofs.OnePair as one
 use Rattle.cyclefile.proofs.PairByPair.{taken-first, stopped-first, split, ended, first, later, refused-at, over-end, end-over}

@@ -1,15 +1,15 @@
 -- Whatever the bytes are, reading them gives pairs or one of its numbers: 12, 17 to 21. Each comes from one test: those of a pair
 -- (`stopped-number`), that of bytes behind the last pair, and those of the count. Assumes nothing.
-use mathlib.Core.Path.{_≡_, refl, sym, _∙_}
+use mathlib.Core.Path.{_≡_, sym, _∙_}
 use Prim.Native.Nat.{ℕ, zero, suc, _≤_}
 use native.Mathlib.Omega.{arith}
 use mathlib.Core.Logic.{_⊎_, inl, inr}
 use mathlib.Core.List.{List}
-use lib.ListN.{length, drop}
+use lib.ListN.{drop}
 use Rattle.spec.specs.File.{word}
 use Rattle.cyclefile.specs.File.{Before, none, behind, refused, readPairs, readCycle}
 use Rattle.cyclefile.proofs.OnePair.{stopped-number}
-use Rattle.cyclefile.proofs.PairByPair.{RefusedAt, first, later, refused-at, over-end}
+use Rattle.cyclefile.proofs.PairByPair.{first, later, refused-at, over-end}
 use Rattle.cyclefile.proofs.WholeFile.{Beginning, cut, miscounted, crowded, begun, begins, no-count, bad-count, few-places, pair-by-pair}
 
 abbrev pub CycleRefusal : ℕ → Type 0
