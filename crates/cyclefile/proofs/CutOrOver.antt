@@ -17,7 +17,7 @@ use Rattle.pairs.specs.Pairs.{countIn}
 use Rattle.cyclefile.specs.File.{Before, none, behind, pairs, refused, Taken, Stopped, hasGap, hasSize, mapIsWrong, fieldLength, bytesTaken, lastPair, pairAt, withFirst, readPair, readPairs, readCycle}
 use Rattle.cyclefile.proofs.OnePair.{took, taken-some, taken-within, stopped-number}
 use Rattle.cyclefile.proofs.OnePair as one
-use Rattle.cyclefile.proofs.PairByPair.{taken-first, stopped-first, split, ended, first, later, refused-at, over-end, end-over}
+use Rattle.cyclefile.proofs.PairByPair.{taken-first, stopped-first, split, ended, first, later, refused-at, refused-left, left-refused}
 use Rattle.cyclefile.proofs.WholeFile.{Beginning, cut, miscounted, crowded, begun, begins, accepted, no-count, bad-count, few-places, pair-by-pair}
 
 -- ---- a pair is judged by its own bytes
@@ -80,9 +80,9 @@ module _ (before : Before) (a more : List ℕ) where
 
 pairs-stay : (k : ℕ) (before : Before) (a more : List ℕ) (n : ℕ) → readPairs k before a ≡ refused n → (n ≡ 18 → ⊥) → readPairs k before (a ++ more) ≡ refused n
 pairs-stay zero before a more n h other =
-    let e = over-end before a n h in
+    let e = refused-left before a n h in
     let l = length-append a more in
-    end-over before (a ++ more) (λ z. e .0 (omega arith)) ∙ ap refused (sym (e .1))
+    left-refused before (a ++ more) (λ z. e .0 (omega arith)) ∙ ap refused (sym (e .1))
 pairs-stay (suc k) before a more n h other =
     elim (refused-at before a k n h) [
       | first e ↦ stopped-first before (a ++ more) k (same-pair before a more (λ z. other (let y : n ≡ 18 = cc in y)) ∙ e)
@@ -90,10 +90,14 @@ pairs-stay (suc k) before a more n h other =
     ]
 
 pairs-over : (k : ℕ) (before : Before) (a over : List ℕ) (ps : List Pair) → readPairs k before a ≡ pairs ps → 0 < length over → readPairs k before (a ++ over) ≡ refused 21
-pairs-over zero before a over ps h some = let l = length-append a over in end-over before (a ++ over) (λ z. omega arith)
+pairs-over zero before a over ps h some = let l = length-append a over in left-refused before (a ++ over) (λ z. omega arith)
 pairs-over (suc k) before a over ps h some =
     let s = split before a k ps h in
     taken-front before a over k (s .head-read) ∙ ap (withFirst (s .head)) (pairs-over k (behind (s .head)) (drop (s .taken) a) over (s .tail) (s .tail-read) some)
+
+-- a list is its first n, and the two parts of the rest
+from-parts : (n : ℕ) (b front over : List ℕ) → drop n b ≡ front ++ over → b ≡ (take n b ++ front) ++ over
+from-parts n b front over e = sym (take-append-drop n b) ∙ ap (λ (l : List ℕ). take n b ++ l) e ∙ sym (append-assoc (take n b) front over)
 
 -- and back: what gets 21 is pairs that are read, and bytes behind them
 record ReadAndOver (k : ℕ) (before : Before) (b : List ℕ) : Type 0 where
@@ -109,14 +113,13 @@ unfolding readPairs
 nothing-read before = refl
 
 read-and-over : (k : ℕ) (before : Before) (b : List ℕ) → readPairs k before b ≡ refused 21 → ReadAndOver k before b
-read-and-over zero before b h = let e = over-end before b 21 h .0 in record { front = []; over = b; ps = []; parts = refl; reads = nothing-read before; some = omega arith }
+read-and-over zero before b h = let e = refused-left before b 21 h .0 in record { front = []; over = b; ps = []; parts = refl; reads = nothing-read before; some = omega arith }
 read-and-over (suc k) before b h =
     elim (refused-at before b k 21 h) [
       | first e ↦ absurd (omega (arith, stopped-number before b 21 e .1))
       | later p taken e rest ↦
           let r = read-and-over k (behind p) (drop taken b) rest in
-          let whole : b ≡ (take taken b ++ r .front) ++ r .over =
-          sym (take-append-drop taken b) ∙ ap (λ (l : List ℕ). take taken b ++ l) (r .parts) ∙ sym (append-assoc (take taken b) (r .front) (r .over)) in
+          let whole = from-parts taken b (r .front) (r .over) (r .parts) in
           let long : length (take taken b) ≡ taken = length-take-le taken b (taken-within before b p taken e) in
           let head = pair-of-front before (take taken b ++ r .front) (r .over) p taken (ap (readPair before) (sym whole) ∙ e) (omega (arith, long, length-append (take taken b) (r .front))) in
           record {
@@ -211,8 +214,7 @@ over-by places file h (crowded long right few) = absurd (let e = few-places plac
 over-by places file h (begun long right room) =
     let r = read-and-over (word file 0) none (drop 2 file) (sym (pair-by-pair places file long right room .0) ∙ h) in
     let front = take 2 file ++ r .front in
-    let whole : file ≡ front ++ r .over =
-    sym (take-append-drop 2 file) ∙ ap (λ (l : List ℕ). take 2 file ++ l) (r .parts) ∙ sym (append-assoc (take 2 file) (r .front) (r .over)) in
+    let whole = from-parts 2 file (r .front) (r .over) (r .parts) in
     let two : length (take 2 file) ≡ 2 = length-take-le 2 file long in
     let more : 2 ≤ length front = omega (arith, two, length-append (take 2 file) (r .front)) in
     let same : word front 0 ≡ word file 0 = sym (word-front front (r .over) 0 (omega arith)) ∙ ap (λ (l : List ℕ). word l 0) (sym whole) in

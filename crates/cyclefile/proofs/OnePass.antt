@@ -18,7 +18,7 @@ use Rattle.cyclefile.specs.declared.reading.steps.Step.{Step}
 use Rattle.cyclefile.specs.File.{Before, behind, CycleRead, pairs, refused, Taken, Stopped, withFirst, readPair, readPairs, passedPairs, fileAnswer}
 use Rattle.cyclefile.specs.InnerPromises.{beforeIs, stepOf}
 use Rattle.cyclefile.proofs.OnePair.{taken-within}
-use Rattle.cyclefile.proofs.PairByPair.{passed-few, end-over}
+use Rattle.cyclefile.proofs.PairByPair.{passed-few, left-refused}
 use Rattle.cyclefile.proofs.PlainSteps.{stepped, stops}
 
 -- a pair stored as its two numbers, and pairs stored from pair i on
@@ -77,7 +77,7 @@ module _ (words : List ℕ) (i : ℕ) (before : Before) (b : List ℕ) where
 
   pub pass-over : (length b ≡ 0 → ⊥) → passFrom words i 0 before b ≡ (Refused 21, words)
   unfolding passedPairs
-  pass-over e = rw (end-over before b e)
+  pass-over e = rw (left-refused before b e)
 
 -- the pair that was taken is not the first any more
 next-by : (file words : List ℕ) (i at g s k : ℕ) (p : Pair) (n at′ g′ s′ : ℕ) → readPair (beforeIs (eqb i 0) g s) (drop at file) ≡ Taken p n → at′ ≡ at + n → g′ ≡ p .gap → s′ ≡ p .size

@@ -33,12 +33,11 @@ split-rest : (before : Before) (b : List ℕ) (k : ℕ) (ps : List Pair) (p : Pa
 split-rest before b k ps p n h (pairs qs) e g = record { head = p; taken = n; tail = qs; ps-is = (cc); head-read = h; tail-read = e }
 split-rest before b k ps p n h (refused m) e g = absurd (let z : _≡_ {A = ℕ} 0 1 = cc in omega arith)
 
-split-by : (before : Before) (b : List ℕ) (k : ℕ) (ps : List Pair) (r : PairRead) → readPair before b ≡ r → afterPair r refused (λ (p : Pair) (taken : ℕ). withFirst p (readPairs k (behind p) (drop taken b))) ≡ pairs ps → Split before b k ps
-split-by before b k ps (Taken p n) h g = split-rest before b k ps p n h (readPairs k (behind p) (drop n b)) refl g
-split-by before b k ps (Stopped m) h g = absurd (let z : _≡_ {A = ℕ} 0 1 = cc in omega arith)
+split-by : (before : Before) (b : List ℕ) (k : ℕ) (ps : List Pair) (r : PairRead) → readPair before b ≡ r → readPairs (suc k) before b ≡ pairs ps → Split before b k ps
+split-by before b k ps (Taken p n) h g = split-rest before b k ps p n h (readPairs k (behind p) (drop n b)) refl (sym (taken-first before b k h) ∙ g)
+split-by before b k ps (Stopped m) h g = absurd (let y = sym (stopped-first before b k h) ∙ g in let z : _≡_ {A = ℕ} 0 1 = cc in omega arith)
 
 pub split : (before : Before) (b : List ℕ) (k : ℕ) (ps : List Pair) → readPairs (suc k) before b ≡ pairs ps → Split before b k ps
-unfolding readPairs
 split before b k ps h = split-by before b k ps (readPair before b) refl h
 
 -- no pair is left, and no byte over
@@ -61,7 +60,7 @@ rest-refused p (refused m) n h = h
 
 refused-by : (before : Before) (b : List ℕ) (k n : ℕ) (r : PairRead) → readPair before b ≡ r → readPairs (suc k) before b ≡ refused n → RefusedAt before b k n
 refused-by before b k n (Taken p taken) e h = later p taken e (rest-refused p (readPairs k (behind p) (drop taken b)) n (sym (taken-first before b k e) ∙ h))
-refused-by before b k n (Stopped m) e h = first (let k′ = sym (stopped-first before b k e) ∙ h in let z : m ≡ n = cc in rw z at e)
+refused-by before b k n (Stopped m) e h = first (let y = sym (stopped-first before b k e) ∙ h in let z : m ≡ n = cc in rw z at e)
 
 pub refused-at : (before : Before) (b : List ℕ) (k n : ℕ) → readPairs (suc k) before b ≡ refused n → RefusedAt before b k n
 refused-at before b k n h = refused-by before b k n (readPair before b) refl h
@@ -71,13 +70,13 @@ over-by n true h = absurd (let z : _≡_ {A = ℕ} 0 1 = cc in omega arith)
 over-by n false h = (refl, cc)
 
 -- no pair is left, and bytes are
-pub over-end : (before : Before) (b : List ℕ) (n : ℕ) → readPairs 0 before b ≡ refused n → (length b ≡ 0 → ⊥) × (n ≡ 21)
+pub refused-left : (before : Before) (b : List ℕ) (n : ℕ) → readPairs 0 before b ≡ refused n → (length b ≡ 0 → ⊥) × (n ≡ 21)
 unfolding readPairs
-over-end before b n h = let e = over-by n (eqb (length b) 0) h in (eqb-false (length b) 0 (e .0), e .1)
+refused-left before b n h = let e = over-by n (eqb (length b) 0) h in (eqb-false (length b) 0 (e .0), e .1)
 
-pub end-over : (before : Before) (b : List ℕ) → (length b ≡ 0 → ⊥) → readPairs 0 before b ≡ refused 21
+pub left-refused : (before : Before) (b : List ℕ) → (length b ≡ 0 → ⊥) → readPairs 0 before b ≡ refused 21
 unfolding readPairs
-end-over before b h = rw (ne-eqb (length b) 0 h)
+left-refused before b h = rw (ne-eqb (length b) 0 h)
 
 pub length-read : (n : ℕ) (before : Before) (b : List ℕ) (ps : List Pair) → readPairs n before b ≡ pairs ps → length ps ≡ n
 length-read zero before b ps h = ap length (ended before b ps h .1)

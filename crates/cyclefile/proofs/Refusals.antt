@@ -9,14 +9,14 @@ use lib.ListN.{drop}
 use Rattle.spec.specs.File.{word}
 use Rattle.cyclefile.specs.File.{Before, none, behind, refused, readPairs, readCycle}
 use Rattle.cyclefile.proofs.OnePair.{stopped-number}
-use Rattle.cyclefile.proofs.PairByPair.{first, later, refused-at, over-end}
+use Rattle.cyclefile.proofs.PairByPair.{first, later, refused-at, refused-left}
 use Rattle.cyclefile.proofs.WholeFile.{Beginning, cut, miscounted, crowded, begun, begins, no-count, bad-count, few-places, pair-by-pair}
 
 abbrev pub CycleRefusal : ℕ → Type 0
 CycleRefusal n = (n ≡ 12) ⊎ ((17 ≤ n) × (n ≤ 21))
 
 pairs-number : (k : ℕ) (before : Before) (b : List ℕ) (n : ℕ) → readPairs k before b ≡ refused n → (17 ≤ n) × (n ≤ 21)
-pairs-number zero before b n h = let e = over-end before b n h .1 in (omega arith, omega arith)
+pairs-number zero before b n h = let e = refused-left before b n h .1 in (omega arith, omega arith)
 pairs-number (suc k) before b n h =
     elim (refused-at before b k n h) [
       | first e ↦ let s = stopped-number before b n e in (s .0, omega (arith, s .1))

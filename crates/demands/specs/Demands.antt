@@ -89,5 +89,5 @@ pub record Demands : Type 0 where
   pub verdict-exact : (spec cycle : List ℕ)
       → (verdictOf spec cycle ≡ 0)
       ↔ ((s : Spec) × ((c : List Pair) × ((readSpec spec ≡ Accepted s) × ((readCycle 512 cycle ≡ pairs c) × Obeys s (cycleRun c)))))
-  -- and passes the number of a cycle file that is refused through
+  -- and, after an accepted specification, it passes on the number of a cycle file that is refused
   pub verdict-passes-on : (spec cycle : List ℕ) (s : Spec) (n : ℕ) → readSpec spec ≡ Accepted s → readCycle 512 cycle ≡ refused n → verdictOf spec cycle ≡ n
