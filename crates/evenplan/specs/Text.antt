@@ -47,7 +47,7 @@ planLine p = planText (p .period / p .count) (p .count) (p .total)
 abbrev pub refusalLine : ℕ → List ℕ
 refusalLine n = (114 ∷ 101 ∷ 102 ∷ 117 ∷ 115 ∷ 101 ∷ 100 ∷ 32 ∷ []) ++ decimal n ++ (10 ∷ [])
 
--- "3 15 3"
+-- "3 15 2"
 abbrev pub reportText : ℕ → ℕ → ℕ → List ℕ
 reportText i minute size = decimal i ++ (32 ∷ []) ++ decimal minute ++ (32 ∷ []) ++ decimal size ++ (10 ∷ [])
 

@@ -1,4 +1,4 @@
--- The supply figures of a proper well-formed plan. Required supply is what its first minutes hold. Available supply, the least over all
+-- The supply figures of a proper plan. Required supply is what its first minutes hold. Available supply, the least over all
 -- starts, is that of the stretch that ends with a period: with the front that it leaves out it is whole periods.
 use Prim.Native.Nat.{ℕ, zero, suc, _+_, _-_, _*_, _/_, _%_, _≤_, _<_}
 use native.Mathlib.Omega.{arith}
@@ -9,7 +9,6 @@ use mathlib.Core.Bool.{true}
 use Rattle.schedule.specs.Schedules.{stretch}
 use Rattle.numbers.proofs.Cases.{lt-cases}
 use Rattle.schedule.proofs.Before.{stretch-add}
-use Rattle.plan.specs.declared.Kind.the-variants.{WellFormed}
 use Rattle.plan.specs.declared.Plan.{Plan}
 use Rattle.plan.specs.Plans.{proper, run}
 use Rattle.plan.proofs.Proper.{proper-bounds}
@@ -31,7 +30,7 @@ unfolding least
 least-above f zero b h = h 0
 least-above f (suc n) b h = omega (arith, least-above f n b h, h (suc n))
 
-module _ (p : Plan) (ok : proper p ≡ true) (well : p .kind ≡ WellFormed) where
+module _ (p : Plan) (ok : proper p ≡ true) where
   abbrev π : ℕ
   π = p .period
 
@@ -40,7 +39,7 @@ module _ (p : Plan) (ok : proper p ≡ true) (well : p .kind ≡ WellFormed) whe
 
   pub required-fullest : (r a : ℕ) → stretch (run p) a r ≤ required p r
   unfolding required
-  required-fullest r a = front-fullest p ok well a r
+  required-fullest r a = front-fullest p ok a r
 
   pub required-most : (r : ℕ) → required p r ≤ r * 1000
   unfolding required
@@ -60,7 +59,7 @@ module _ (p : Plan) (ok : proper p ≡ true) (well : p .kind ≡ WellFormed) whe
         let d : m / π * π + m % π ≡ m = div-add-mod' m π in
         let u : (m / π + 1) * π ≡ m / π * π + π = rw (add-mul, one-mul) in
         let e : (m / π + 1) * π - m ≡ π - m % π = omega (arith, part) in
-        rw e at (back-thinnest p ok well m (m / π + 1) (omega (arith, part)) a)
+        rw e at (back-thinnest p ok m (m / π + 1) (omega (arith, part)) a)
 
     pub available-held : stretch (run p) (π - m % π) m ≡ available p m
     unfolding available back

@@ -114,11 +114,6 @@ module _ (s : Spec) (q : Rates) (n : Known s q) where
   plan-gaps MinimumDemand k e = well-gaps k _ _ (in-range MinimumDemand k e)
   plan-gaps MaximumSupply k e = well-gaps k _ _ (in-range MaximumSupply k e)
 
-pub plan-well : (f : Family) (s : Spec) (q : Rates) (k : ℕ) → planFor f s q k .kind ≡ WellFormed
-unfolding planFor
-plan-well MinimumDemand s q k = refl
-plan-well MaximumSupply s q k = refl
-
 pub plan-count : (f : Family) (s : Spec) (q : Rates) (k : ℕ) → planFor f s q k .count ≡ k
 unfolding planFor
 plan-count MinimumDemand s q k = refl

@@ -12,7 +12,6 @@ use Rattle.spec.specs.Rates.{bothRates, started, ifRates}
 use Rattle.spec.proofs.GoingOn.{goes-on, started-both}
 use Rattle.spec.proofs.KnownRates.{Known, known}
 use Rattle.schedule.specs.Schedules.{stretch}
-use Rattle.plan.specs.declared.Kind.the-variants.{WellFormed}
 use Rattle.plan.specs.declared.Plan.{Plan}
 use Rattle.plan.specs.Plans.{proper, run}
 use Rattle.families.specs.declared.Family.{Family}
@@ -20,7 +19,7 @@ use Rattle.families.specs.declared.Family.the-variants.{MinimumDemand, M
 use Rattle.families.specs.declared.Scheduled.the-variants.{Found, Refused}
 use Rattle.families.specs.Families.{exists, planFor, required, supplyFigure, scheduled, scheduleFor}
 use Rattle.families.proofs.Figures.{required-fullest, available-least, available-held}
-use Rattle.families.proofs.Plans.{scheduled-none, scheduled-some, plan-proper, plan-well, plan-count}
+use Rattle.families.proofs.Plans.{scheduled-none, scheduled-some, plan-proper, plan-count}
 
 -- A schedule that is found exists, and is the one that the definitions give.
 pub record Exists (f : Family) (s : Spec) (q : Rates) (k : ℕ) (plan : Plan) (v : ℕ) : Type 0 where
@@ -63,7 +62,6 @@ pub record FoundAt (f : Family) (s : Spec) (q : Rates) (k : ℕ) (plan : Plan) (
   pub rates : Known s q
   pub at : Exists f s q k plan v
   pub ok : proper plan ≡ true
-  pub well : plan .kind ≡ WellFormed
 
 pub found-at : (f : Family) (s : Spec) (q : Rates) (k : ℕ) (plan : Plan) (v : ℕ) → bothRates s ≡ Both q → scheduleFor f s k ≡ Found plan v → FoundAt f s q k plan v
 found-at f s q k plan v e h =
@@ -74,7 +72,6 @@ found-at f s q k plan v e h =
       rates = n;
       at = x;
       ok = rw (← x .is) (plan-proper s q n f k (x .there));
-      well = rw (← x .is) (plan-well f s q k);
     }
 
 -- The required supply is what minutes 0 to R - 1 hold, and no stretch of R minutes holds more.
@@ -83,7 +80,7 @@ pub required-is-most : (s : Spec) (q : Rates) (k : ℕ) (plan : Plan) (v : ℕ) 
 unfolding supplyFigure required
 required-is-most s q k plan v e h =
     let x = found-at MinimumDemand s q k plan v e h in
-    (x .at .figure, λ a. rw (← x .at .figure) (required-fullest plan (x .ok) (x .well) (q .r) a))
+    (x .at .figure, λ a. rw (← x .at .figure) (required-fullest plan (x .ok) (q .r) a))
 
 -- The available supply is the least that any stretch of P minutes holds: each holds at least that, and some stretch just that.
 pub available-is-least : (s : Spec) (q : Rates) (k : ℕ) (plan : Plan) (v : ℕ) → bothRates s ≡ Both q → scheduleFor MaximumSupply s k ≡ Found plan v
@@ -91,6 +88,6 @@ pub available-is-least : (s : Spec) (q : Rates) (k : ℕ) (plan : Plan) (v : ℕ
 unfolding supplyFigure
 available-is-least s q k plan v e h =
     let x = found-at MaximumSupply s q k plan v e h in (
-      λ a. rw (← x .at .figure) (available-least plan (x .ok) (x .well) (q .p) a),
-      (plan .period - q .p % plan .period, available-held plan (x .ok) (x .well) (q .p) ∙ x .at .figure),
+      λ a. rw (← x .at .figure) (available-least plan (x .ok) (q .p) a),
+      (plan .period - q .p % plan .period, available-held plan (x .ok) (q .p) ∙ x .at .figure),
     )

@@ -94,7 +94,7 @@ fn held_before(plan: Plan, x: u32) -> u64
 
 // What minutes 0 to r - 1 hold.
 fn required_supply(plan: Plan, r: u16) -> u32
-    requires { ⌜ (proper plan ≡ true) × (plan .kind ≡ WellFormed) ⌝ }
+    requires { ⌜ proper plan ≡ true ⌝ }
     ensures { λ v. ⌜ v ≡ required plan r ⌝ }
 {
     held_before(plan, r as u32) as u32
@@ -103,7 +103,7 @@ fn required_supply(plan: Plan, r: u16) -> u32
 // The least that a stretch of p minutes holds: that which ends with a period. Together with the front that it leaves out it is
 // whole periods.
 fn available_supply(plan: Plan, p: u16) -> u32
-    requires { ⌜ (proper plan ≡ true) × (plan .kind ≡ WellFormed) ⌝ }
+    requires { ⌜ proper plan ≡ true ⌝ }
     ensures { λ v. ⌜ v ≡ available plan p ⌝ }
 {
     let minutes = p as u32;
@@ -113,7 +113,7 @@ fn available_supply(plan: Plan, p: u16) -> u32
 }
 
 fn supply_figure(f: Family, q: Rates, plan: Plan) -> u32
-    requires { ⌜ (proper plan ≡ true) × (plan .kind ≡ WellFormed) ⌝ }
+    requires { ⌜ proper plan ≡ true ⌝ }
     ensures { λ v. ⌜ v ≡ supplyFigure f q plan ⌝ }
 {
     match f {

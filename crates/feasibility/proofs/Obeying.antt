@@ -26,7 +26,7 @@ module _ (s : Spec) (q : Rates) (k : ℕ) (plan : Plan) (v : ℕ) where
   supply-kept : (f : Family) → FoundAt f s q k plan v → figurePasses f q v ≡ true → (a : ℕ) → stretch (run plan) a (q .r) ≤ q .b
   unfolding figurePasses supplyFigure planFor
   supply-kept MinimumDemand x h a =
-      le-trans (required-fullest plan (x .ok) (x .well) (q .r) a) (rw (x .at .figure) (leb-true _ _ h))
+      le-trans (required-fullest plan (x .ok) (q .r) a) (rw (x .at .figure) (leb-true _ _ h))
   supply-kept MaximumSupply x h a =
       le-trans (held-within plan (x .ok) a (q .r) (rw (← x .at .is) (le-max-right _ _))) (rw (← x .at .is) (min-le-right _ _))
 
@@ -35,7 +35,7 @@ module _ (s : Spec) (q : Rates) (k : ℕ) (plan : Plan) (v : ℕ) where
   demand-met MinimumDemand x h a =
       le-trans (rw (← x .at .is) (le-max-right _ _)) (held-beyond plan (x .ok) a (q .p) (rw (← x .at .is) (min-le-right _ _)))
   demand-met MaximumSupply x h a =
-      le-trans (rw (x .at .figure) (leb-true _ _ h)) (available-least plan (x .ok) (x .well) (q .p) a)
+      le-trans (rw (x .at .figure) (leb-true _ _ h)) (available-least plan (x .ok) (q .p) a)
 
   pub obeys : (f : Family) → FoundAt f s q k plan v → figurePasses f q v ≡ true → Obeys s (run plan)
   obeys f x h = record {

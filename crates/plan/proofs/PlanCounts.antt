@@ -5,14 +5,13 @@ use native.Mathlib.Nat.{mod-lt, div-add-mod'}
 use mathlib.Core.Path.{_≡_, _∙_}
 use mathlib.Core.Bool.{true}
 use Rattle.schedule.specs.Schedules.{minute, reportsBefore}
-use Rattle.schedule.proofs.Sums.{sum-same}
 use Rattle.schedule.proofs.Before.{before-is}
 use Rattle.plan.specs.declared.Plan.{Plan}
-use Rattle.plan.specs.Plans.{proper, run, wellGap}
+use Rattle.plan.specs.Plans.{proper, run}
 use Rattle.plan.proofs.Proper.{ProperBounds, proper-bounds}
 use Rattle.plan.proofs.WellFormed.{gap-sum}
 use Rattle.plan.proofs.Minutes.{within, withinBefore, period-iff}
-use Rattle.plan.proofs.Runs.{run-gap, run-later}
+use Rattle.plan.proofs.Runs.{run-gaps, run-later}
 
 module _ (p : Plan) (ok : proper p ≡ true) where
   known : ProperBounds p
@@ -21,8 +20,7 @@ module _ (p : Plan) (ok : proper p ≡ true) where
   -- whole periods, and the minutes of the report in its own
   pub run-minute : (i : ℕ) → minute (run p) i ≡ i / p .count * p .period + within (p .count) (p .period) (i % p .count)
   unfolding minute within
-  run-minute i =
-      sum-same (run p .gap) (wellGap (p .count) (p .period)) i (λ j h. run-gap p ok j) ∙ gap-sum (p .count) (known .some) (p .period) i
+  run-minute i = run-gaps p ok i ∙ gap-sum (p .count) (known .some) (p .period) i
 
   pub reports-closed : (m : ℕ) → reportsBefore (run p) m ≡ m / p .period * p .count + withinBefore (p .count) (p .period) (m % p .period)
   reports-closed m =

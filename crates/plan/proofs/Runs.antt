@@ -1,13 +1,15 @@
 -- The endless run of a proper plan. The even kind has k dividing π, so it has no longer gap: the gaps of both kinds are those of the
--- well-formed one. Of both, sizes and gaps repeat after k reports, which take π minutes and hold δ records.
+-- well-formed one. Of both, sizes and gaps repeat after k reports, which take π minutes and hold δ records; and of both the sizes are
+-- fullest, and the gaps shortest, at the start.
 use Prim.Native.Nat.{ℕ, _+_, _-_, _*_, _/_, _%_, _≤_, _<_}
 use native.Mathlib.Omega.{arith}
 use native.Mathlib.Nat.{add-zero, mod-lt, mul-comm, le-mul-of-pos-right, le-trans, mul-le-mul-right}
 use mathlib.Core.Path.{_≡_, refl, sym, _∙_}
 use mathlib.Core.Bool.{true}
 use borrow.Author.Tests.{lt-leb, eqb-true}
+use Rattle.numbers.specs.Numbers.{ceil}
 use Rattle.schedule.specs.Schedules.{sum, minute, stretch, reportsBefore}
-use Rattle.schedule.proofs.Sums.{sum-same, sum-block, block-most}
+use Rattle.schedule.proofs.Sums.{sum-none, sum-more, sum-same, sum-block, sum-add, sum-again, block, block-most}
 use Rattle.schedule.proofs.Before.{before-le, stretch-before, stretch-longer}
 use Rattle.schedule.proofs.Repeats.{stretch-round, stretch-first, stretch-whole}
 use Rattle.plan.specs.declared.Kind.{Kind}
@@ -16,7 +18,7 @@ use Rattle.plan.specs.declared.Plan.{Plan}
 use Rattle.plan.specs.Plans.{proper, run, kindRun, kindFits, wellGap}
 use Rattle.plan.proofs.Proper.{ProperBounds, proper-bounds, proper-rest}
 use Rattle.plan.proofs.WellFormed.{size-again, size-total, size-range, size-sub, gap-again, gap-total, gap-range, gap-super}
-use Rattle.plan.proofs.EvenSizes.{even-again, even-round, even-size-most}
+use Rattle.plan.proofs.EvenSizes.{even-again, even-round, even-sub, even-size-most, even-block-range}
 use Rattle.plan.proofs.Extremes.{fullest-first, thinnest-last}
 
 module _ (k π δ : ℕ) (pos : 0 < k) where
@@ -36,6 +38,11 @@ module _ (k π δ : ℕ) (pos : 0 < k) where
   unfolding kindRun
   kind-total WellFormed = size-total k pos δ
   kind-total Even = sum-block _ k ∙ even-round k δ pos 0
+
+  kind-sub : (t : Kind) (j n : ℕ) → sum (kindRun t k π δ .size) (j + n) ≤ sum (kindRun t k π δ .size) j + sum (kindRun t k π δ .size) n
+  unfolding kindRun
+  kind-sub WellFormed j n = size-sub k pos δ j n
+  kind-sub Even j n = even-sub k δ pos j n
 
   kind-most : (t : Kind) (b : ℕ) → δ ≤ k * b → (i : ℕ) → kindRun t k π δ .size i ≤ b
   unfolding kindRun
@@ -59,6 +66,10 @@ module _ (p : Plan) (ok : proper p ≡ true) where
   unfolding run
   run-gap i = kind-gap k π δ (known .some) (p .kind) (sym (proper-rest p known) ∙ ok) i
 
+  -- the minute of report n
+  pub run-gaps : (n : ℕ) → sum (run p .gap) n ≡ sum (wellGap k π) n
+  run-gaps n = sum-same (run p .gap) (wellGap k π) n (λ i h. run-gap i)
+
   pub run-later : (i : ℕ) → 1 ≤ run p .gap i
   run-later i =
       rw (run-gap i) (gap-range k (known .some) π 1 π (omega (arith, known .long)) (rw mul-comm (le-mul-of-pos-right π (known .some))) i .0)
@@ -73,11 +84,15 @@ module _ (p : Plan) (ok : proper p ≡ true) where
   -- a period's minutes and records
   pub run-period : minute (run p) k ≡ π
   unfolding minute
-  run-period = sum-same (run p .gap) (wellGap k π) k (λ i h. run-gap i) ∙ gap-total k (known .some) π
+  run-period = run-gaps k ∙ gap-total k (known .some) π
 
   pub run-total : sum (run p .size) k ≡ δ
   unfolding run
   run-total = kind-total k π δ (known .some) (p .kind)
+
+  -- any k reports in a row hold δ
+  pub row-total : (i : ℕ) → block (run p .size) i k ≡ δ
+  row-total i = omega (arith, sum-add (run p .size) i k, sum-again (run p .size) k run-size-again i, run-total)
 
   pub period-total : (a : ℕ) → stretch (run p) a π ≡ δ
   period-total a = rw (run-period, run-total) at (stretch-round (run p) run-later k run-size-again run-gap-again a)
@@ -97,6 +112,11 @@ module _ (p : Plan) (ok : proper p ≡ true) where
   pub held-beyond : (a w : ℕ) → π ≤ w → δ ≤ stretch (run p) a w
   held-beyond a w h = omega (arith, stretch-longer (run p) run-later a π w h, period-total a)
 
+  -- n reports in a row of the even kind hold n × δ/k records, rounded down or up
+  pub row-range : p .kind ≡ Even → (i n : ℕ) → (n * δ / k ≤ block (run p .size) i n) × (block (run p .size) i n ≤ ceil (n * δ) k)
+  unfolding run kindRun
+  row-range e i n = rw e (even-block-range k δ (known .some) i n)
+
   -- no report is larger than 1,000 records, and no two are at one minute
   pub held-most : (x : ℕ) → stretch (run p) 0 x ≤ x * 1000
   unfolding run
@@ -106,20 +126,24 @@ module _ (p : Plan) (ok : proper p ≡ true) where
       rw (stretch-before (run p) run-later 0 x)
       (le-trans (block-most (run p .size) 1000 sizes (reportsBefore (run p) 0) (reportsBefore (run p) (0 + x) - reportsBefore (run p) 0)) (mul-le-mul-right 1000 n))
 
-  -- of the well-formed kind the fullest stretches are the first, and the thinnest end with a period
-  module _ (well : p .kind ≡ WellFormed) where
-    sub : (j n : ℕ) → sum (run p .size) (j + n) ≤ sum (run p .size) j + sum (run p .size) n
-    unfolding run kindRun
-    sub j n = rw well (size-sub k (known .some) δ j n)
+  -- no row of reports holds more, or takes less time, than as many from the first on: the fullest stretches are the first, and the thinnest
+  -- end with a period
+  sub : (j n : ℕ) → sum (run p .size) (j + n) ≤ sum (run p .size) j + sum (run p .size) n
+  unfolding run
+  sub j n = kind-sub k π δ (known .some) (p .kind) j n
 
-    super : (j n : ℕ) → sum (run p .gap) j + sum (run p .gap) n ≤ sum (run p .gap) (j + n)
-    unfolding run kindRun
-    super j n = rw well (gap-super k (known .some) π j n)
+  super : (j n : ℕ) → sum (run p .gap) j + sum (run p .gap) n ≤ sum (run p .gap) (j + n)
+  super j n = rw (run-gaps j, run-gaps n, run-gaps (j + n)) (gap-super k (known .some) π j n)
 
-    pub front-fullest : (a w : ℕ) → stretch (run p) a w ≤ stretch (run p) 0 w
-    front-fullest = fullest-first (run p) run-later sub super
+  pub report-0-fullest : (i : ℕ) → run p .size i ≤ run p .size 0
+  report-0-fullest i =
+      let first : sum (run p .size) 1 ≡ sum (run p .size) 0 + run p .size 0 = sum-more (run p .size) 0 in
+      omega (arith, sub i 1, sum-more (run p .size) i, sum-none (run p .size))
 
-    pub back-thinnest : (w u : ℕ) → w ≤ u * π → (a : ℕ) → stretch (run p) (u * π - w) w ≤ stretch (run p) a w
-    back-thinnest w u h =
-        rw run-period at
-        (thinnest-last (run p) run-later sub super k run-size-again run-gap-again w u (rw run-period h) (rw run-period (omega (arith, known))))
+  pub front-fullest : (a w : ℕ) → stretch (run p) a w ≤ stretch (run p) 0 w
+  front-fullest = fullest-first (run p) run-later sub super
+
+  pub back-thinnest : (w u : ℕ) → w ≤ u * π → (a : ℕ) → stretch (run p) (u * π - w) w ≤ stretch (run p) a w
+  back-thinnest w u h =
+      rw run-period at
+      (thinnest-last (run p) run-later sub super k run-size-again run-gap-again w u (rw run-period h) (rw run-period (omega (arith, known))))

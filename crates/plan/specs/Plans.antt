@@ -1,9 +1,10 @@
--- Document 01, "Schedules from document 000": plans, when a plan is proper, and the sizes and gaps of both kinds; "Cycles", third
--- paragraph: the endless run of a plan.
+-- Document 01, "Schedules from document 000": plans, when a plan is proper, and the sizes and gaps of both kinds (the even kind's sizes:
+-- document 02, Req 02); "Cycles", third paragraph: the endless run of a plan.
 use Prim.Native.Nat.{ℕ, _+_, _-_, _*_, _/_, _%_}
 use mathlib.Core.Bool.{Bool, true, cond, _&&_}
 use mathlib.Core.List.{List, _∷_}
 use lib.Dec.{leb, ltb, eqb}
+use Rattle.numbers.specs.Numbers.{ceil}
 use Rattle.schedule.specs.Schedules.{Schedule}
 use Rattle.plan.specs.declared.Kind.{Kind}
 use Rattle.plan.specs.declared.Kind.the-variants.{WellFormed, Even}
@@ -42,9 +43,10 @@ wellSize k δ i = δ / k + cond (ltb (i % k) (δ % k)) 1 0
 unfoldable pub wellGap : ℕ → ℕ → ℕ → ℕ
 wellGap k π i = π / k + cond (leb (k - π % k) (i % k)) 1 0
 
--- Even kind: "Size of report i: ⌊(i + 1) × δ/k⌋ − ⌊i × δ/k⌋.", what the first i + 1 reports hold less what the first i hold
+-- Even kind: "In even plans the size of report i becomes ⌈(i + 1) × δ/k⌉ − ⌈i × δ/k⌉." (document 02, Req 02), what the first i + 1 reports
+-- hold less what the first i hold
 unfoldable pub evenFirst : ℕ → ℕ → ℕ → ℕ
-evenFirst k δ n = n * δ / k
+evenFirst k δ n = ceil (n * δ) k
 
 unfoldable pub evenSize : ℕ → ℕ → ℕ → ℕ
 evenSize k δ i = evenFirst k δ (i + 1) - evenFirst k δ i

@@ -102,12 +102,12 @@ fn well_first(k: u64, total: u64, n: u64) -> u64
     n / k * total + (j * (total / k) + numbers::smaller(j, total % k))
 }
 
-// What the first n reports of the even kind hold.
+// What the first n reports of the even kind hold: rounded up, so that report 0 is as full as any.
 fn even_first(k: u64, total: u64, n: u64) -> u64
     requires { ⌜ (1 ≤ k) × (total < 2 ^ 25) × (n ≤ 2 ^ 32) ⌝ }
     ensures { λ r. ⌜ r ≡ evenFirst k total n ⌝ }
 {
-    n * total / k
+    numbers::ceil_div(n * total, k)
 }
 
 // The size of report i of the even kind.

@@ -1,4 +1,5 @@
--- Document 01, "Samples": those marked ★ as one table, and one proof that the definitions give every value that it prints.
+-- Document 01, "Samples": those marked ★ as one table, and one proof that the definitions give every value that it prints. The sizes of
+-- B with 15 are those of document 02, Req 02.
 use Prim.Native.Nat.{ℕ, _+_, _*_}
 use mathlib.Core.Path.{_≡_, refl}
 use mathlib.Core.List.{List, [], _∷_}
@@ -163,7 +164,7 @@ samples =
     isReadFrom (0x0F ∷ 0 ∷ 2 ∷ 0 ∷ 3 ∷ 0 ∷ 5 ∷ 0 ∷ 5 ∷ 0 ∷ 0x0F ∷ 0 ∷ 0x1A ∷ 0 ∷ 0x0A ∷ 0 ∷ 0x14 ∷ [])
     ∷ testRefuses 9
     ∷ evenGives 5 4 10
-    ∷ evenReports (0 ∷ 5 ∷ 10 ∷ 15 ∷ []) (2 ∷ 3 ∷ 2 ∷ 3 ∷ [])
+    ∷ evenReports (0 ∷ 5 ∷ 10 ∷ 15 ∷ []) (3 ∷ 2 ∷ 3 ∷ 2 ∷ [])
     ∷ cycleGets (cycle 5 (3 ∷ 2 ∷ [])) 0
     ∷ cycleGets (cycle 5 (3 ∷ 3 ∷ 2 ∷ 2 ∷ [])) 15
     ∷ cycleGets (cycle 5 (2 ∷ 2 ∷ 2 ∷ 3 ∷ [])) 16 ∷ [])

@@ -13,7 +13,7 @@ cast-result : tie.Need-cast-result
 unfolding required
 cast-result c =
     let start = c .before in
-    let most = required-most _ (start .pre .0) (start .pre .1) (start .args .r) in
+    let most = required-most _ (start .pre) (start .args .r) in
     record { fits = omega arith }
 
 returns : tie.Need-returns

@@ -1,6 +1,6 @@
 -- Without a schedule 6; else its plan is proper and well-formed, as the figure asks, and both are the definition's.
 use Rattle.spec.proofs.KnownRates.{known}
-use Rattle.families.proofs.Plans.{plan-proper, plan-well, scheduled-none, scheduled-some}
+use Rattle.families.proofs.Plans.{plan-proper, scheduled-none, scheduled-some}
 use mathlib.Core.Path.{sym}
 use Rattle.numbers.proofs.Negated.{held, failed}
 use borrow.Author.Needs.{needs}
@@ -23,7 +23,7 @@ supply-figure-requires c κs =
     let start = c .before .before .before in
     let n = known _ _ (start .pre .0) (start .pre .1) in
     let e = held (c .before .before .schedule-exists .ensures) (c .before .if1 .left) in
-    rw (c .plan-for .ensures) (plan-proper _ _ n _ _ e, plan-well _ _ _ _)
+    rw (c .plan-for .ensures) (plan-proper _ _ n _ _ e)
 
 returns-2 : tie.Need-returns-2
 returns-2 c =
