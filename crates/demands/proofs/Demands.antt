@@ -19,7 +19,9 @@ use Rattle.plan.specs.declared.Plan.{Plan}
 use Rattle.plan.specs.declared.Reported.the-variants.{At}
 use Rattle.plan.specs.Plans.{proper, run}
 use Rattle.plan.specs.Reports.{reportOf}
+use Rattle.schedule.proofs.Sums.{block}
 use Rattle.schedule.proofs.StretchSum.{stretch-is-sum}
+use Rattle.plan.proofs.Runs.{report-0-fullest, front-fullest, row-range, row-total}
 use Rattle.families.proofs.Schedules.{required-is-most, available-is-least}
 use Rattle.feasibility.proofs.Theorems.{test-passes, test-sound}
 use Rattle.even.proofs.EvenPlans.{even-plan-obeys, even-plan-longest, even-plan-refused}
@@ -88,7 +90,7 @@ unfolding verdictOf verdictRead
 passes-on spec cycle s n a e = rw (a, e)
 
 pub demands : Demands
-unfolding Loaded
+unfolding Loaded block
 demands = record {
   specification-read = spec-is-read;
   cycle-read = λ places file. cycle-is-read places file (readCycle places file) refl;
@@ -102,6 +104,9 @@ demands = record {
   available-supply = available-is-least;
   test-best = λ s q p v rates e. test-passes s q p v rates .0 e .1;
   every-report = report-is;
+  fuller-first = λ p ok. (report-0-fullest p ok, front-fullest p ok);
+  even-rows = row-range;
+  any-period = row-total;
   reads-back = reads-back;
   written-bytes = writes-bytes;
   writes-back = writes-back;

@@ -1,11 +1,12 @@
 -- The three demands as theorems, for every specification, cycle, plan and file. That each function gives what its definition says is
 -- its own contract; here is what the definitions promise. `demands` of proofs/Demands.antt proves all of it.
-use Prim.Native.Nat.{ℕ, _+_, _/_, _≤_, _<_}
+use Prim.Native.Nat.{ℕ, _+_, _*_, _/_, _≤_, _<_}
 use mathlib.Core.Path.{_≡_}
 use mathlib.Core.Logic.{_↔_, _⊎_}
 use mathlib.Core.Bool.{true}
 use mathlib.Core.List.{List, _++_}
 use lib.ListN.{length, take}
+use Rattle.numbers.specs.Numbers.{ceil}
 use Rattle.spec.specs.declared.Spec.{Spec}
 use Rattle.spec.specs.declared.Rates.{Rates}
 use Rattle.spec.specs.declared.BothRates.the-variants.{Both}
@@ -15,6 +16,7 @@ use Rattle.spec.specs.Limits.{IsAccepted}
 use Rattle.spec.specs.File.{readSpec}
 use Rattle.schedule.specs.Schedules.{Schedule, sum, minute, stretch, share}
 use Rattle.schedule.specs.Rules.{Obeys}
+use Rattle.plan.specs.declared.Kind.the-variants.{Even}
 use Rattle.plan.specs.declared.Plan.{Plan}
 use Rattle.plan.specs.declared.Reported.the-variants.{At}
 use Rattle.plan.specs.Plans.{proper, run}
@@ -67,6 +69,14 @@ pub record Demands : Type 0 where
   pub test-best : (s : Spec) (q : Rates) (p : Plan) (v : ℕ) → bothRates s ≡ Both q → testOf s ≡ Passed p v → BestOfAll (familyOf q) s p v
   -- report i of a proper plan is report i of its endless run, for every i without upper end
   pub every-report : (p : Plan) (i : ℕ) → proper p ≡ true → reportOf p i ≡ At (minute (run p) i) (run p .size i)
+  -- The first report is the fuller one (document 02, Req 02). In a plan of either kind no report is fuller than report 0, and no stretch
+  -- fuller than as many minutes from minute 0 on.
+  pub fuller-first : (p : Plan) → proper p ≡ true → ((i : ℕ) → run p .size i ≤ run p .size 0) × ((a w : ℕ) → stretch (run p) a w ≤ stretch (run p) 0 w)
+  -- n reports in a row of an even plan, from any report i on, hold between ⌊n × δ/k⌋ and ⌈n × δ/k⌉ records
+  pub even-rows : (p : Plan) → proper p ≡ true → p .kind ≡ Even → (i n : ℕ)
+      → (n * p .total / p .count ≤ sum (λ j. run p .size (i + j)) n) × (sum (λ j. run p .size (i + j)) n ≤ ceil (n * p .total) (p .count))
+  -- and k in a row hold δ, of either kind
+  pub any-period : (p : Plan) → proper p ≡ true → (i : ℕ) → sum (λ j. run p .size (i + j)) (p .count) ≡ p .total
   -- a written cycle reads back as itself
   pub reads-back : (places : ℕ) (c : List Pair) → 1 ≤ length c → length c ≤ 512 → length c ≤ places → readCycle places (cycleBytes c) ≡ pairs c
   -- what is written of 16-bit numbers is made of bytes
