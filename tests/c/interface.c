@@ -156,8 +156,8 @@ static void samples_of_plans(void)
     CHECK(test(sample_b(15)) == MAXELTU_NOT_PASSED && untouched());
     CHECK(even_plan(sample_b(15)) == 0 && hold(3, 4, 20, 10));
     CHECK(even_plan(sample_b(14)) == MAXELTU_NO_EVEN_PLAN && untouched());
-    for (uint32_t i = 0; i < 4; i++)
-        CHECK(report_is(MAXELTU_EVEN, 4, 20, 10, i, 5 * i, 2 + i % 2));
+    for (uint32_t i = 0; i < 8; i++)
+        CHECK(report_is(MAXELTU_EVEN, 4, 20, 10, i, 5 * i, 3 - i % 2));
     CHECK(max_supply(sample_c(), 2) == 0 && hold(3, 90, 10, 15));
     CHECK(test(sample_c()) == MAXELTU_NOT_PASSED && untouched());
     CHECK(even_plan(sample_c()) == MAXELTU_NO_EVEN_PLAN && untouched());
@@ -310,6 +310,8 @@ static void refusals_of_reports(void)
     CHECK(report_is(MAXELTU_EVEN, 1, 20160, 1000, UINT32_MAX, UINT32_MAX * UINT64_C(20160), 1000));
     CHECK(report_is(MAXELTU_WELL_FORMED, 1, 20160, 1000, UINT32_MAX, UINT32_MAX * UINT64_C(20160), 1000));
     CHECK(report_is(MAXELTU_EVEN, 20160, 20160, 20160000, UINT32_MAX, UINT32_MAX, 1000));
+    CHECK(report_is(MAXELTU_EVEN, 20160, 20160, 20159999, UINT32_MAX - 256, UINT32_MAX - 256, 999));
+    CHECK(report_is(MAXELTU_EVEN, 20160, 20160, 20161, UINT32_MAX - 255, UINT32_MAX - 255, 2));
     end();
 }
 

@@ -1,4 +1,4 @@
-//! Every specification with small numbers, and for each of them every short cycle: nothing here is left to chance.
+//! Every specification with small numbers, for each of them every short cycle, and every small even plan: nothing here is left to chance.
 
 use crate::calls::with_condition;
 use crate::group::{same, Runner, Verdict};
@@ -41,6 +41,7 @@ pub fn all(runner: &mut Runner) {
         &[0, 13, 14, 15, 16],
         cycle_case,
     );
+    runner.every("every small even plan: rows of reports", COUNTS * TOTALS, &[0, 1], row_case);
 }
 
 fn test_case(number: u64, library: &mut Library) -> Verdict {
@@ -81,4 +82,26 @@ fn cycle_case(number: u64, library: &mut Library) -> Verdict {
     let pairs = if second == PAIRS { &both[..1] } else { &both[..] };
     let answer = cycle::check(&spec, pairs);
     same(answer, library.check_cycle(&spec::write(&spec), pairs), answer, || format!("{spec:?} {pairs:?}"))
+}
+
+/// Even plans of 1 to this many reports, with so many totals each, from k on.
+const COUNTS: u64 = 12;
+const TOTALS: u64 = 36;
+
+/// What the sizes of document 02, Req 02, are for: n reports in a row hold n × δ/k records, rounded down or up, and the first n hold it
+/// rounded up. It counts as 0 where all sizes are the same, 1 where the first report is fuller than some.
+fn row_case(number: u64, library: &mut Library) -> Verdict {
+    let k = number / TOTALS + 1;
+    let total = k + number % TOTALS;
+    let plan = [k, k, total].map(|n| n as u32);
+    let sizes: Vec<u64> = (0..4 * k as u32).map(|i| library.report(1, plan, i, [0; 3]).places[2].into()).collect();
+    for n in 0..=2 * k {
+        let row = |i: u64| sizes[i as usize..][..n as usize].iter().sum::<u64>();
+        let (least, most) = (n * total / k, (n * total).div_ceil(k));
+        let wrong = (0..2 * k).find(|&i| !(least..=most).contains(&row(i)) || i == 0 && row(i) < most);
+        if let Some(i) = wrong {
+            return Err(format!("k {k} total {total}: {n} reports from report {i} on hold {}", row(i)));
+        }
+    }
+    Ok(u32::from(total % k > 0))
 }

@@ -186,9 +186,9 @@ fn plans(checks: &mut Checks) {
         ("period k − 1", well(4, 3, 10), 0, Err(11)),
         ("even, period 0", even(4, 0, 10), 0, Err(11)),
         ("period k", well(4, 4, 10), 3, Ok((3, 2))),
-        ("even, period k", even(4, 4, 10), 3, Ok((3, 3))),
+        ("even, period k", even(4, 4, 10), 3, Ok((3, 2))),
         ("period 20,160 k", well(4, 80_640, 10), 3, Ok((60_480, 2))),
-        ("even, period 20,160 k", even(4, 80_640, 10), 3, Ok((60_480, 3))),
+        ("even, period 20,160 k", even(4, 80_640, 10), 3, Ok((60_480, 2))),
         ("period 20,160 k + 1", well(4, 80_641, 10), 0, Err(11)),
         ("even, period 20,161 k", even(4, 80_644, 10), 0, Err(11)),
         ("total k − 1", well(4, 20, 3), 0, Err(11)),
@@ -204,14 +204,19 @@ fn plans(checks: &mut Checks) {
         ("period no multiple of k", well(4, 21, 10), 4, Ok((21, 3))),
         ("even, period one above a multiple of k", even(4, 21, 10), 0, Err(11)),
         ("even, period one below a multiple of k", even(4, 23, 10), 0, Err(11)),
-        ("even, the next multiple of k", even(4, 24, 10), 3, Ok((18, 3))),
+        ("even, the next multiple of k", even(4, 24, 10), 3, Ok((18, 2))),
         // 2^32 − 1 is 4 × 1,073,741,823 + 3, and 20,160 × 213,044 + 255.
         ("last report", well(4, 21, 10), LAST, Ok((22_548_578_298, 2))),
-        ("even, last report", even(4, 20, 10), LAST, Ok((21_474_836_475, 3))),
+        ("even, last report", even(4, 20, 10), LAST, Ok((21_474_836_475, 2))),
         ("last report of the longest period", well(1, 20_160, 1_000), LAST, Ok((86_586_540_667_200, 1_000))),
         ("even, last report of the longest period", even(1, 20_160, 1_000), LAST, Ok((86_586_540_667_200, 1_000))),
         ("last report of the largest k", well(20_160, 20_161, 20_161), LAST, Ok((4_295_180_339, 1))),
         ("even, all at the top", even(20_160, 406_425_600, 20_160_000), LAST, Ok((86_586_540_667_200, 1_000))),
+        // One record less leaves the last report of a period with 999; one record more than k gives its first report 2.
+        ("even, one record less", even(20_160, 406_425_600, 20_159_999), LAST, Ok((86_586_540_667_200, 1_000))),
+        ("even, one record less", even(20_160, 20_160, 20_159_999), LAST - 256, Ok((4_294_967_039, 999))),
+        ("even, one record more than k", even(20_160, 20_160, 20_161), LAST - 255, Ok((4_294_967_040, 2))),
+        ("even, one record more than k", even(20_160, 20_160, 20_161), LAST, Ok((4_294_967_295, 1))),
     ];
     for (name, plan, i, wanted) in rows {
         checks.report(name, plan, i, wanted);

@@ -12,7 +12,7 @@ use std::process::{Command, Stdio};
 
 pub fn all(runner: &mut Runner, program: &Path) {
     let sample: &[u8] = &[0x0F, 0, 2, 0, 3, 0, 5, 0, 5, 0, 0x0F, 0, 0x1A, 0, 0x0A, 0, 0x14];
-    let printed = "gap 5 cycle 4 total 10\n0 0 2\n1 5 3\n2 10 2\n3 15 3\n";
+    let printed = "gap 5 cycle 4 total 10\n0 0 3\n1 5 2\n2 10 3\n3 15 2\n";
     let mut checks = vec![];
     for (name, file, wanted) in [
         ("B with 15", sample.to_vec(), printed),

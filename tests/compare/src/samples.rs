@@ -32,6 +32,7 @@ fn sample_a(checks: &mut Checks) {
     checks.test("A", &a, Ok([3, 158, 17, 29]));
     reports(checks, "A", Plan { kind: Kind::WellFormed, k: 3, period: 158, total: 17 }, &[(0, 6), (52, 6), (105, 5), (158, 6)]);
     checks.even("A", &a, Ok([52, 3, 17]));
+    reports(checks, "A, even", Plan { kind: Kind::Even, k: 3, period: 156, total: 17 }, &[(0, 6), (52, 6), (104, 5), (156, 6)]);
     checks.even("A with gaps 53 to 55", &Spec { gap: (53, 55), ..a.clone() }, Err(10));
     checks.cycle("A", &a, &[(52, 6), (53, 6), (53, 5)], 0);
     let a28 = Spec { supply: Some((28, 220)), ..a };
@@ -53,7 +54,7 @@ fn sample_b(checks: &mut Checks) {
         checks,
         "B with 15, even",
         Plan { kind: Kind::Even, k: 4, period: 20, total: 10 },
-        &[(0, 2), (5, 3), (10, 2), (15, 3)],
+        &[(0, 3), (5, 2), (10, 3), (15, 2), (20, 3)],
     );
     checks.cycle("G, 3 2", &b15, &[(5, 3), (5, 2)], 0);
     checks.cycle("G, 3 3 2 2", &b15, &[(5, 3), (5, 3), (5, 2), (5, 2)], 15);

@@ -1,4 +1,4 @@
-//! Document 01, "Schedules from document 000": plans, their kinds and their endless runs.
+//! Document 01, "Schedules from document 000", and document 02, Req 02: plans, their kinds and their endless runs.
 
 use crate::schedule::Schedule;
 use crate::Refusal;
@@ -60,8 +60,8 @@ impl Schedule for Plan {
         match self.kind {
             // "The first δ mod k sizes in a period are ⌊δ/k⌋ + 1, the rest ⌊δ/k⌋."
             Kind::WellFormed => self.total / self.k + u64::from(i % self.k < self.total % self.k),
-            // "Size of report i: ⌊(i + 1) × δ/k⌋ − ⌊i × δ/k⌋."
-            Kind::Even => (i + 1) * self.total / self.k - i * self.total / self.k,
+            // "In even plans the size of report i becomes ⌈(i + 1) × δ/k⌉ − ⌈i × δ/k⌉."
+            Kind::Even => ((i + 1) * self.total).div_ceil(self.k) - (i * self.total).div_ceil(self.k),
         }
     }
 
