@@ -208,6 +208,12 @@ uint32_t maxeltu_even_plan(const uint8_t *spec, size_t spec_len,
  * k <= period <= 20160 * k and k <= total <= 1000 * k, and for the even kind k
  * divides the period. A plan of any other kind is not proper.
  *
+ * Well-formed: the first total % k sizes of a period are one record larger than
+ * the rest, its last period % k gaps one minute longer. Even: all gaps are
+ * period / k, and the larger sizes are spread over the period, from report 0 on:
+ * n reports in a row hold n * total / k records, rounded down or up, and the
+ * first n hold it rounded up. Of either kind no report is larger than report 0.
+ *
  * Answers 0; 11 where the plan is not proper.
  * Writes *minute and *size.
  */
