@@ -1,4 +1,5 @@
-//! The samples of document 01, starred or not, through the library and through the reference, and the files in samples/.
+//! The samples of document 01, starred or not, through the library and through the reference, and the files in samples/. The sizes of
+//! even plans are those of document 02, Req 02.
 
 use crate::checks::{self, both_rates, Checks};
 use crate::group::Runner;
@@ -13,7 +14,7 @@ fn reports(checks: &mut Checks, name: &str, plan: Plan, wanted: &[(u64, u64)]) {
 }
 
 pub fn all(runner: &mut Runner) {
-    checks::group(runner, "samples of document 01", |checks| {
+    checks::group(runner, "samples of documents 01 and 02", |checks| {
         sample_a(checks);
         sample_b(checks);
         samples_c_d_e(checks);

@@ -1,5 +1,4 @@
 -- The code is the formula. The product has at most 33 and 25 bits.
-use mathlib.Core.Path.{_≡_}
 use Rattle.spec.proofs.Products.{fits-mul}
 use Rattle.plan.specs.Plans.{evenFirst}
 use borrow.Author.Needs.{needs}
