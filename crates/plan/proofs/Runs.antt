@@ -62,11 +62,11 @@ module _ (p : Plan) (ok : proper p ≡ true) where
   known : ProperBounds p
   known = proper-bounds p ok
 
+  -- the gaps of both kinds are those of the well-formed one, and so are their sums
   pub run-gap : (i : ℕ) → run p .gap i ≡ wellGap k π i
   unfolding run
   run-gap i = kind-gap k π δ (known .some) (p .kind) (sym (proper-rest p known) ∙ ok) i
 
-  -- the minute of report n
   pub run-gaps : (n : ℕ) → sum (run p .gap) n ≡ sum (wellGap k π) n
   run-gaps n = sum-same (run p .gap) (wellGap k π) n (λ i h. run-gap i)
 
@@ -128,22 +128,22 @@ module _ (p : Plan) (ok : proper p ≡ true) where
 
   -- no row of reports holds more, or takes less time, than as many from the first on: the fullest stretches are the first, and the thinnest
   -- end with a period
-  sub : (j n : ℕ) → sum (run p .size) (j + n) ≤ sum (run p .size) j + sum (run p .size) n
+  run-size-sub : (j n : ℕ) → sum (run p .size) (j + n) ≤ sum (run p .size) j + sum (run p .size) n
   unfolding run
-  sub j n = kind-sub k π δ (known .some) (p .kind) j n
+  run-size-sub j n = kind-sub k π δ (known .some) (p .kind) j n
 
-  super : (j n : ℕ) → sum (run p .gap) j + sum (run p .gap) n ≤ sum (run p .gap) (j + n)
-  super j n = rw (run-gaps j, run-gaps n, run-gaps (j + n)) (gap-super k (known .some) π j n)
+  run-gap-super : (j n : ℕ) → sum (run p .gap) j + sum (run p .gap) n ≤ sum (run p .gap) (j + n)
+  run-gap-super j n = rw (run-gaps j, run-gaps n, run-gaps (j + n)) (gap-super k (known .some) π j n)
 
   pub report-0-fullest : (i : ℕ) → run p .size i ≤ run p .size 0
   report-0-fullest i =
       let first : sum (run p .size) 1 ≡ sum (run p .size) 0 + run p .size 0 = sum-more (run p .size) 0 in
-      omega (arith, sub i 1, sum-more (run p .size) i, sum-none (run p .size))
+      omega (arith, run-size-sub i 1, sum-more (run p .size) i, sum-none (run p .size))
 
   pub front-fullest : (a w : ℕ) → stretch (run p) a w ≤ stretch (run p) 0 w
-  front-fullest = fullest-first (run p) run-later sub super
+  front-fullest = fullest-first (run p) run-later run-size-sub run-gap-super
 
   pub back-thinnest : (w u : ℕ) → w ≤ u * π → (a : ℕ) → stretch (run p) (u * π - w) w ≤ stretch (run p) a w
   back-thinnest w u h =
       rw run-period at
-      (thinnest-last (run p) run-later sub super k run-size-again run-gap-again w u (rw run-period h) (rw run-period (omega (arith, known))))
+      (thinnest-last (run p) run-later run-size-sub run-gap-super k run-size-again run-gap-again w u (rw run-period h) (rw run-period (omega (arith, known))))
