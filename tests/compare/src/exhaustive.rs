@@ -1,4 +1,5 @@
-//! Every specification with small numbers, for each of them every short cycle, and every small even plan: nothing here is left to chance.
+//! Every specification with small numbers, for each of them every short cycle, and every small even plan: nothing here is left to
+//! chance.
 
 use crate::calls::with_condition;
 use crate::group::{same, Runner, Verdict};
