@@ -33,6 +33,9 @@ use Rattle.cyclefile.proofs.RoundTrip.{reads-back, writes-back, reads-cycles}
 use Rattle.cyclefile.proofs.Refusals.{CycleRefusal, cycle-numbered}
 use Rattle.cyclefile.proofs.CutOrOver.{cut-off, number-stays, over-refused, over-whole}
 use Rattle.cyclefile.proofs.WrittenBytes.{writes-bytes}
+use Rattle.meter.proofs.Steps.{refused-meter-kept}
+use Rattle.meter.proofs.SameAnswers.{same-answers, holds-few}
+use Rattle.meter.proofs.Budget.{budget-kept}
 use Rattle.maxeltu.specs.Verdict.{verdictRead, verdictOf}
 use Rattle.demands.specs.Demands.{Demands}
 
@@ -99,6 +102,7 @@ demands = record {
   number-stays = number-stays;
   refused-list-kept = λ file held held′ count count′ n. list-kept (readCycle (length held) file) held held′ count count′ n;
   refused-bytes-kept = bytes-kept;
+  refused-meter-kept = refused-meter-kept;
   stretch-sum = stretch-is-sum;
   required-supply = required-is-most;
   available-supply = available-is-least;
@@ -110,6 +114,9 @@ demands = record {
   reads-back = reads-back;
   written-bytes = writes-bytes;
   writes-back = writes-back;
+  meter-answers = same-answers;
+  meter-budget = budget-kept;
+  meter-holds = holds-few;
   cycle-passed = passed-obeys;
   test-obeys = test-sound;
   even-obeys = even-plan-obeys;

@@ -4,9 +4,10 @@ use Prim.Native.Nat.{ℕ, _+_, _*_, _/_, _≤_, _<_}
 use mathlib.Core.Path.{_≡_}
 use mathlib.Core.Logic.{_↔_, _⊎_}
 use mathlib.Core.Bool.{true}
-use mathlib.Core.List.{List, _++_}
+use mathlib.Core.List.{List, [], _++_}
 use lib.ListN.{length, take}
 use Rattle.numbers.specs.Numbers.{ceil}
+use Rattle.spec.specs.declared.Rate.the-variants.{Absent, Present}
 use Rattle.spec.specs.declared.Spec.{Spec}
 use Rattle.spec.specs.declared.Rates.{Rates}
 use Rattle.spec.specs.declared.BothRates.the-variants.{Both}
@@ -32,6 +33,9 @@ use Rattle.pairs.specs.declared.Pair.{Pair}
 use Rattle.cycle.specs.Cycles.{cycleRun}
 use Rattle.cycle.specs.Check.{checkNumber}
 use Rattle.cyclefile.specs.File.{pairs, refused, cycleBytes, readCycle, writeNumber, Reads, bytesAfter, AreBytes, Words}
+use Rattle.meter.specs.declared.Meter.{Meter}
+use Rattle.meter.specs.Plain.{Report, recordsAt, plainAnswers, acceptedOnto, stretchFrom}
+use Rattle.meter.specs.Ring.{fresh, stepped, meterAnswers, meterAfter}
 use Rattle.maxeltu.specs.Verdict.{verdictOf}
 
 pub record Demands : Type 0 where
@@ -55,6 +59,8 @@ pub record Demands : Type 0 where
       → Reads (readCycle (length held) file) held count n held′ count′ → 0 < n → (held′ ≡ held) × (count′ ≡ count)
   pub refused-bytes-kept : (c : List Pair) (held : List ℕ)
       → 0 < writeNumber (length held) c → bytesAfter c held ≡ held
+  -- an offer that is refused leaves the meter as it was (document 02, Req 03), whatever the meter holds
+  pub refused-meter-kept : (m : Meter) (t d : ℕ) → 0 < stepped m t d .answer .number → stepped m t d .meter ≡ m
   -- 2. The figures are those that document 01 defines, over every stretch and every k.
 
   -- a stretch holds, summed, the sizes of the reports at its minutes, however many reports are looked at: every stretch below is such a sum
@@ -83,6 +89,15 @@ pub record Demands : Type 0 where
   pub written-bytes : (c : List Pair) → length c ≤ 512 → Words c → AreBytes (cycleBytes c)
   -- a file that is read is the one that the writer makes of its contents
   pub writes-back : (places : ℕ) (file : List ℕ) (c : List Pair) → AreBytes file → readCycle places file ≡ pairs c → cycleBytes c ≡ file
+  -- A budget meter in the box (document 02, Req 03). For every list of offers to a fresh meter of an accepted specification, each answer, its
+  -- number and its budget left, is the plain machine's.
+  pub meter-answers : (s : Spec) (offers : List Report) → IsAccepted s → meterAnswers (fresh s) offers ≡ plainAnswers s [] offers
+  -- no R minutes, from whatever start, hold more than B records of the offers that the meter has accepted
+  pub meter-budget : (s : Spec) (b r : ℕ) (offers : List Report) → IsAccepted s → s .supply ≡ Present b r
+      → (a : ℕ) → recordsAt (stretchFrom a r) (acceptedOnto [] offers (meterAnswers (fresh s) offers)) ≤ b
+  -- it holds 1,024 reports at most, and with no supply rate only the last
+  pub meter-holds : (s : Spec) (offers : List Report) → IsAccepted s
+      → (meterAfter (fresh s) offers .count ≤ 1_024) × (s .supply ≡ Absent → meterAfter (fresh s) offers .count ≤ 1)
   -- 3. For every accepted specification:
 
   -- a cycle of 1 to 512 pairs is passed exactly when its endless run obeys the four rules at every starting minute from 0 on

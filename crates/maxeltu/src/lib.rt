@@ -4,6 +4,7 @@
 use cyclefile::reading;
 use cyclefile::reading::CycleFile;
 use families::Family;
+use meter::Meter;
 use pairs::Flat;
 use pairs::Pair;
 use plan::Kind;
@@ -12,10 +13,11 @@ use spec::SpecRead;
 use spec::refusal;
 ghost use mathlib.Core.Path.{_≡_};
 ghost use lib.ListN.{length};
-ghost use Rattle.spec.specs.File.{readSpec};
+ghost use Rattle.spec.specs.File.{ifRead, readSpec};
 ghost use Rattle.cycle.specs.Check.{checkFileNumber};
 ghost use Rattle.cyclefile.specs.File.{readCycle, Reads, Writes};
 ghost use Rattle.families.specs.declared.Family.the-variants.{MinimumDemand, MaximumSupply};
+ghost use Rattle.meter.specs.Ring.{fresh, stepped, toldOr};
 ghost use Rattle.answers.specs.Answers.{heldAfter};
 ghost use Rattle.maxeltu.specs.Verdict.{verdictOf};
 ghost use Rattle.maxeltu.specs.InnerPromises.{FlatReads};
@@ -233,4 +235,27 @@ pub extern "C" fn maxeltu_write_cycle(pairs: &[Pair], file: &mut [u8], written: 
     ensures { λ r. ⌜ Writes (now (pairs .entry)) (now (file .entry)) (now (written .entry)) r (now (file .exit)) (now (written .exit)) ⌝ }
 {
     writer::write_unpacked(pairs::unpack(pairs), file, written)
+}
+
+// Makes a meter for a specification's file: a lent one is written only where there is no refusal.
+#[no_mangle]
+pub extern "C" fn maxeltu_make_meter(spec_bytes: &[u8], meter: &mut Meter) -> u32
+    ensures { λ r. ⌜ (r ≡ ifRead (readSpec (now («spec_bytes» .entry))) (λ spec. 0) (λ n. n))
+        × (now (meter .exit) ≡ ifRead (readSpec (now («spec_bytes» .entry))) fresh (λ n. now (meter .entry))) ⌝ }
+{
+    let made = meter::make_from(spec_bytes);
+    if made.number == 0 {
+        *meter = made.meter;
+    }
+    made.number
+}
+
+// One offer to a lent meter, which is written only where it is accepted. The budget left is told wherever there is a supply rate.
+#[no_mangle]
+pub extern "C" fn maxeltu_offer(meter: &mut Meter, minute: u32, size: u32, left: &mut u32) -> u32
+    ensures { λ r. ⌜ (r ≡ stepped (now (meter .entry)) minute size .answer .number)
+        × (now (meter .exit) ≡ stepped (now (meter .entry)) minute size .meter)
+        × (now (left .exit) ≡ toldOr (stepped (now (meter .entry)) minute size .answer .left) (now (left .entry))) ⌝ }
+{
+    meter::tell(meter::offer(meter, minute, size), left)
 }

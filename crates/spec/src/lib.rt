@@ -182,7 +182,8 @@ pub fn rates_number(q: BothRates) -> u32
     }
 }
 
-fn accepted(s: Spec) -> SpecRead
+// A specification in numbers, as reading its file would give it: accepted, or the refusal 3 or 4.
+pub fn accepted(s: Spec) -> SpecRead
     ensures { λ r. ⌜ r ≡ accept s ⌝ }
 {
     let n = spec_number(s);

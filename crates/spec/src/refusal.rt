@@ -46,3 +46,6 @@ pub const NOT_LEFT_OUT: u32 = 19;
 pub const NO_ROOM: u32 = 20;
 
 pub const BYTES_OVER: u32 = 21;
+
+// An offer to a meter, beside GAP, SIZE and TOO_FULL.
+pub const NO_PLACE: u32 = 22;
