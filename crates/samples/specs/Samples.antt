@@ -1,5 +1,5 @@
 -- Document 01, "Samples": those marked ★ as one table, and one proof that the definitions give every value that it prints. The sizes of
--- B with 15 are those of document 02, Req 02.
+-- B with 15 are those of document 02, Req 02, and its offers those of Req 03.
 use Prim.Native.Nat.{ℕ, _+_, _*_}
 use mathlib.Core.Path.{_≡_, refl}
 use mathlib.Core.List.{List, [], _∷_}
@@ -35,6 +35,16 @@ use Rattle.answers.specs.Answers.{Answer, consistencyAnswer, scheduledAnswer, t
 use Rattle.pairs.specs.declared.Pair.{Pair}
 use Rattle.cycle.specs.Cycles.{pairGap, pairSize, cycleRun, round}
 use Rattle.cycle.specs.Check.{checkNumber, cycleNumber, gapsAllowed, sizesAllowed, supplyKept, demandMet}
+use Rattle.meter.specs.declared.Left.{Left}
+use Rattle.meter.specs.declared.Left.the-variants.{Untold, Records}
+use Rattle.meter.specs.declared.Answer.{Answer as OfferAnswer}
+use Rattle.meter.specs.Plain.{Report, countedAt, tooEarly, overBudget, noPlace, offerNumber, after, later, budgetLeft, offerAnswer, plainAnswers}
+
+-- an offer, with the number and the budget left that it gets
+pub record Offer : Type 0 where
+  pub report : Report
+  pub number : ℕ
+  pub left : ℕ
 
 -- what the document says of a specification; a report is its minute and its size
 pub data Claim : Type 0 where
@@ -48,6 +58,7 @@ pub data Claim : Type 0 where
   evenReports : (minutes sizes : List ℕ) → Claim
   evenRefuses : (number : ℕ) → Claim
   cycleGets : (cycle : List Pair) (number : ℕ) → Claim
+  offersGet : (offers : List Offer) → Claim
   isReadFrom : (file : List ℕ) → Claim
 
 -- the same numbers
@@ -106,6 +117,20 @@ readTo (Accepted r) s =
     && sameRange (r .duration) (s .duration)
 readTo (NotRead n) s = false
 
+offered : List Offer → List Report
+offered [] = []
+offered (x ∷ xs) = x .report ∷ offered xs
+
+leftIs : Left → ℕ → Bool
+leftIs Untold n = false
+leftIs (Records m) n = eqb m n
+
+answersAre : List OfferAnswer → List Offer → Bool
+answersAre [] [] = true
+answersAre (a ∷ more) (x ∷ xs) = eqb (a .number) (x .number) && leftIs (a .left) (x .left) && answersAre more xs
+answersAre [] (x ∷ xs) = false
+answersAre (a ∷ more) [] = false
+
 claimHolds : Spec → Claim → Bool
 claimHolds s isConsistent = answerIs (consistencyAnswer (consistencyOf s)) 0 []
 claimHolds s (minimumDemand k π δ v) = answerIs (scheduledAnswer (scheduleFor MinimumDemand s k)) 0 (wellFormed ∷ k ∷ π ∷ δ ∷ v ∷ [])
@@ -117,6 +142,7 @@ claimHolds s (evenGives g k δ) = answerIs (evenAnswer (evenPlan s)) 0 (even ∷
 claimHolds s (evenReports minutes sizes) = evenReportsAre (evenPlan s) minutes sizes
 claimHolds s (evenRefuses n) = answerIs (evenAnswer (evenPlan s)) n []
 claimHolds s (cycleGets c n) = eqb (checkNumber s c) n
+claimHolds s (offersGet offers) = answersAre (plainAnswers s [] (offered offers)) offers
 claimHolds s (isReadFrom file) = readTo (readSpec file) s
 
 claimsHold : Spec → List Claim → Bool
@@ -147,6 +173,9 @@ pub cycle : (gap : ℕ) → List ℕ → List Pair
 cycle gap [] = []
 cycle gap (d ∷ ds) = record { gap = gap; size = d } ∷ cycle gap ds
 
+pub offer : (minute size number left : ℕ) → Offer
+offer t d n left = record { report = record { minute = t; size = d }; number = n; left = left }
+
 pub samples : List Sample
 samples =
     -- ★A; ★B = 28
@@ -159,7 +188,7 @@ samples =
     ∷ sample 3 10 45 55 28 220 17 158 (testRefuses 9 ∷ evenRefuses 10 ∷ [])
     -- ★B
     ∷ sample 2 3 5 5 16 26 10 20 (testPasses 4 20 10 16 ∷ minimumDemand 4 20 10 16 ∷ [])
-    -- ★B = 15, its file and the listing of its even plan; ★G
+    -- ★B = 15, its file and the listing of its even plan; ★G; offers, of which one that is refused far ahead drops nothing
     ∷ sample 2 3 5 5 15 26 10 20 (
     isReadFrom (0x0F ∷ 0 ∷ 2 ∷ 0 ∷ 3 ∷ 0 ∷ 5 ∷ 0 ∷ 5 ∷ 0 ∷ 0x0F ∷ 0 ∷ 0x1A ∷ 0 ∷ 0x0A ∷ 0 ∷ 0x14 ∷ [])
     ∷ testRefuses 9
@@ -167,7 +196,19 @@ samples =
     ∷ evenReports (0 ∷ 5 ∷ 10 ∷ 15 ∷ []) (3 ∷ 2 ∷ 3 ∷ 2 ∷ [])
     ∷ cycleGets (cycle 5 (3 ∷ 2 ∷ [])) 0
     ∷ cycleGets (cycle 5 (3 ∷ 3 ∷ 2 ∷ 2 ∷ [])) 15
-    ∷ cycleGets (cycle 5 (2 ∷ 2 ∷ 2 ∷ 3 ∷ [])) 16 ∷ [])
+    ∷ cycleGets (cycle 5 (2 ∷ 2 ∷ 2 ∷ 3 ∷ [])) 16
+    ∷ offersGet (
+    offer 9 4 14 15
+    ∷ offer 3 3 0 12
+    ∷ offer 8 3 0 9
+    ∷ offer 1000 9 14 15
+    ∷ offer 13 3 0 6
+    ∷ offer 17 3 13 6
+    ∷ offer 18 3 0 3
+    ∷ offer 23 3 0 0
+    ∷ offer 28 1 14 0
+    ∷ offer 28 3 15 0
+    ∷ offer 29 3 0 0 ∷ []) ∷ [])
     -- ★B = 14
     ∷ sample 2 3 5 5 14 26 10 20 (evenRefuses 10 ∷ [])
     -- ★C
@@ -186,5 +227,5 @@ samplesHold (x ∷ xs) = claimsHold (x .spec) (x .claims) && samplesHold xs
 
 -- Every value of the table is what the definitions compute.
 pub samples-hold : samplesHold samples ≡ true
-unfolding samplesHold samples sample cycle claimsHold claimHolds same answerIs reportIs reportsAre scheduleReports wellFormed even evenReportsAre sameRate sameRange readTo specNumber limits order rateLimits rangeLimits rangeOrder sizeAllowed gapAllowed gapTop readSpec ifAccepted started sum minute heldFrom stretch proper run kindRun wellSize wellGap evenFirst evenSize reportOf consistencyOf conditionsOf boundsFitRates sizeFitsBudget gapFitsDemand demandFitsDuration fewestReportsFitBudget enoughReportsForDemand supplyCoversDemand whereRate whereRange ceil scheduleFor bothRates ratesFrom scheduled exists planFor supplyFigure required available least testOf testConsistent testTaken figurePasses taken lastCount takenUpTo betterOf isBetter familyOf evenPlan planOr10 evenPlanAt evenGap largest fits supplyFits demandFits totalOf countAt pairGap pairSize cycleRun round checkNumber cycleNumber gapsAllowed sizesAllowed supplyKept demandMet all
+unfolding samplesHold samples sample cycle offer offered leftIs answersAre claimsHold claimHolds same answerIs reportIs reportsAre scheduleReports wellFormed even evenReportsAre sameRate sameRange readTo specNumber limits order rateLimits rangeLimits rangeOrder sizeAllowed gapAllowed gapTop readSpec ifAccepted started sum minute heldFrom stretch proper run kindRun wellSize wellGap evenFirst evenSize reportOf consistencyOf conditionsOf boundsFitRates sizeFitsBudget gapFitsDemand demandFitsDuration fewestReportsFitBudget enoughReportsForDemand supplyCoversDemand whereRate whereRange ceil scheduleFor bothRates ratesFrom scheduled exists planFor supplyFigure required available least testOf testConsistent testTaken figurePasses taken lastCount takenUpTo betterOf isBetter familyOf evenPlan planOr10 evenPlanAt evenGap largest fits supplyFits demandFits totalOf countAt pairGap pairSize cycleRun round checkNumber cycleNumber gapsAllowed sizesAllowed supplyKept demandMet all countedAt tooEarly overBudget noPlace offerNumber after later budgetLeft offerAnswer plainAnswers
 samples-hold = refl

@@ -5,6 +5,8 @@ use families::Family;
 use families::Scheduled;
 use feasibility::Tested;
 use libc::STDOUT_FILENO;
+use meter::Left;
+use meter::Meter;
 use plan::Plan;
 use plan::Reported;
 use spec::Range;
@@ -176,7 +178,40 @@ fn sample_b() {
     even_plan(sample(2, 3, 5, 5, 14, 26, 10, 20));
 }
 
-// B with 15, from its file, and the cycles of G.
+// One offer: its number and the budget left. The meter after it is handed back.
+fn offer(m: Meter, minute: u32, size: u32) -> Meter {
+    let s = meter::step(m, minute, size);
+    let answer = s.answer;
+    number(answer.number as u64);
+    let left = answer.left;
+    match left {
+        Left::Untold => {}
+        Left::Records(n) => {
+            number(n as u64);
+        }
+    }
+    s.meter
+}
+
+// Offers to a meter of B with 15: one that is refused far ahead drops nothing.
+fn offers(s: Spec) {
+    text(b"  offers");
+    let made = meter::make(s);
+    let m = offer(made.meter, 9, 4);
+    let m = offer(m, 3, 3);
+    let m = offer(m, 8, 3);
+    let m = offer(m, 1000, 9);
+    let m = offer(m, 13, 3);
+    let m = offer(m, 17, 3);
+    let m = offer(m, 18, 3);
+    let m = offer(m, 23, 3);
+    let m = offer(m, 28, 1);
+    let m = offer(m, 28, 3);
+    offer(m, 29, 3);
+    end();
+}
+
+// B with 15, from its file, the cycles of G, and offers to a meter.
 fn sample_g() {
     text(b"B with B = 15, G\n");
     let file = [15u8, 0, 2, 0, 3, 0, 5, 0, 5, 0, 15, 0, 26, 0, 10, 0, 20];
@@ -190,6 +225,7 @@ fn sample_g() {
     cycle(s, &[5, 3, 5, 2]);
     cycle(s, &[5, 3, 5, 3, 5, 2, 5, 2]);
     cycle(s, &[5, 2, 5, 2, 5, 2, 5, 3]);
+    offers(s);
 }
 
 fn samples_c_and_d() {
