@@ -17,7 +17,7 @@ use Rattle.schedule.specs.Schedules.{sum}
 use Rattle.schedule.proofs.Sums.{block, sum-add}
 use Rattle.meter.specs.declared.Meter.{Meter}
 use Rattle.meter.specs.Plain.{Report, countedAt, endingWith, tooEarly, later}
-use Rattle.meter.specs.Ring.{windowOf, budgetOf, heldReport, agedFrom, aged, used, ringLater, ringEarly}
+use Rattle.meter.specs.Ring.{windowOf, budgetOf, heldReport, agedFrom, aged, used, laterOf, earlyOf}
 use Rattle.meter.proofs.Offers.{FallsFrom, Falls, later-falls}
 use Rattle.meter.proofs.Rows.{rows, rows-split, rows-below, rows-rise, falls-front, counted-append, counted-all, counted-none}
 
@@ -78,13 +78,13 @@ pub record Keeps (spec : Spec) (m : Meter) (l : List Report) : Type 0 where
   pub latest : Latest m l
 
 -- the minute at which the ring tells is the list's
-pub later-same : (m : Meter) (l : List Report) (t : ℕ) → Latest m l → (ringLater m t ≡ later l t) × (m .last ≤ later l t)
-unfolding ringLater later
+pub later-same : (m : Meter) (l : List Report) (t : ℕ) → Latest m l → (laterOf (m .count) (m .last) t ≡ later l t) × (m .last ≤ later l t)
+unfolding later
 later-same m [] t h = (rw (eq-eqb _ _ (h .0)), omega arith)
 later-same m (x ∷ l) t h = (rw (ne-eqb (m .count) 0 (omega arith), h .1), omega arith)
 
-pub early-same : (spec : Spec) (m : Meter) (l : List Report) (t : ℕ) → m .smin ≡ spec .smin → Latest m l → ringEarly m t ≡ tooEarly spec l t
-unfolding ringEarly tooEarly
+pub early-same : (spec : Spec) (m : Meter) (l : List Report) (t : ℕ) → m .smin ≡ spec .smin → Latest m l → earlyOf (m .count) (m .last) (m .smin) t ≡ tooEarly spec l t
+unfolding tooEarly
 early-same spec m [] t s h = rw (eq-eqb _ _ (h .0))
 early-same spec m (x ∷ l) t s h = rw (ne-eqb (m .count) 0 (omega arith), h .1, s)
 
@@ -96,7 +96,7 @@ module _ (spec : Spec) (m : Meter) (l : List Report) (kept : Keeps spec m l) (t 
   pub aged-now : Aged (heldReport m) (m .window) (later l t) (m .count) 0 (aged m t)
   unfolding aged
   aged-now =
-      rw (← later-same m l t (kept .latest) .0) (aged-right (heldReport m) (m .window) (ringLater m t) (m .count) 0)
+      rw (← later-same m l t (kept .latest) .0) (aged-right (heldReport m) (m .window) (laterOf (m .count) (m .last) t) (m .count) 0)
 
   pub used-now : used m t ≡ sum (λ i. counting i .size) (m .count - aged m t)
   unfolding used block

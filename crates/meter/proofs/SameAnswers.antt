@@ -24,7 +24,7 @@ use Rattle.meter.specs.declared.Left.the-variants.{Untold, Records}
 use Rattle.meter.specs.declared.Meter.{Meter}
 use Rattle.meter.specs.declared.Stepped.{Stepped}
 use Rattle.meter.specs.Plain.{Report, countedAt, recordsAt, reportsAt, endingWith, tooEarly, overBudget, noPlace, firstOf, offerNumber, after, later, budgetLeft, offerAnswer, plainAnswers}
-use Rattle.meter.specs.Ring.{windowOf, budgetOf, fresh, aged, used, ringNumber, withOffer, leftOf, ringLeft, acceptedStep, refusedStep, stepped, meterAnswers, meterAfter}
+use Rattle.meter.specs.Ring.{windowOf, budgetOf, fresh, aged, used, ringNumber, leftOf, acceptedStep, refusedStep, stepped, meterAnswers, meterAfter}
 use Rattle.meter.proofs.Offers.{Passed, passed, later-offered}
 use Rattle.meter.proofs.Rows.{counted-never}
 use Rattle.meter.proofs.Held.{Keeps, is-in, is-out, early-same, counting, used-now, held-now}
@@ -118,8 +118,8 @@ module _ (spec : Spec) (ok : IsAccepted spec) where
     unfolding offerNumber
     tests e = passed _ _ _ _ e
 
-    left-told : (r : ℕ) → ringLeft m r ≡ told (spec .supply) r
-    unfolding ringLeft leftOf
+    left-told : (r : ℕ) → leftOf (m .window) (m .budget) r ≡ told (spec .supply) r
+    unfolding leftOf
     left-told r = rw (kept .window, kept .budget)
 
     -- the answer is the plain machine's, and the meter stands for its list

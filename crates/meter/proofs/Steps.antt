@@ -14,7 +14,7 @@ use Rattle.schedule.specs.Schedules.{sum}
 use Rattle.meter.specs.declared.Left.{Left}
 use Rattle.meter.specs.declared.Meter.{Meter}
 use Rattle.meter.specs.declared.Stepped.{Stepped}
-use Rattle.meter.specs.Ring.{placeOf, ringReport, heldReport, agedFrom, laterOf, ringLater, aged, used, earlyOf, ringEarly, ringNumber, withOffer, leftOf, ringLeft, acceptedStep, refusedStep, stepped}
+use Rattle.meter.specs.Ring.{placeOf, ringReport, heldReport, agedFrom, laterOf, aged, used, earlyOf, ringNumber, withOffer, leftOf, acceptedStep, refusedStep, stepped}
 
 module _ (f : ℕ → Report) (w t : ℕ) where
   aged-none : (i : ℕ) → agedFrom f w t 0 i ≡ 0
@@ -49,7 +49,7 @@ module _ (f : ℕ → Report) (w t : ℕ) where
 
 module _ (m : Meter) (t d : ℕ) where
   pub aged-is : (a u : ℕ) → u ≡ laterOf (m .count) (m .last) t → a ≡ agedFrom (ringReport (m .minutes) (m .sizes) (m .first)) (m .window) u (m .count) 0 → a ≡ aged m t
-  unfolding aged heldReport ringLater
+  unfolding aged heldReport
   aged-is a u e f = f ∙ rw e
 
   pub used-is : (a out u : ℕ) → a ≡ aged m t → out ≡ sum (λ i. ringReport (m .minutes) (m .sizes) (m .first) i .size) a → u ≡ m .records - out → u ≡ used m t
@@ -59,12 +59,12 @@ module _ (m : Meter) (t d : ℕ) where
   pub number-is : (a u n : ℕ) → a ≡ aged m t → u ≡ used m t
       → n ≡ firstOf (earlyOf (m .count) (m .last) (m .smin) t) (not (between (m .dmin) (m .dmax) d)) (ltb (m .budget) (u + d)) (leb 1024 (m .count - a))
       → n ≡ ringNumber m t d
-  unfolding ringNumber ringEarly
+  unfolding ringNumber
   number-is a u n e f g = g ∙ rw (e, f)
 
   pub step-refused : (n u : ℕ) → n ≡ ringNumber m t d → (n ≡ 0 → ⊥) → u ≡ used m t
       → record { meter = m; answer = record { number = n; left = leftOf (m .window) (m .budget) u } } ≡ stepped m t d
-  unfolding stepped refusedStep ringLeft
+  unfolding stepped refusedStep
   step-refused n u e z f = rw (← e, ne-eqb n 0 z, ← f)
 
   pub step-accepted : (n a u first at : ℕ) → n ≡ ringNumber m t d → n ≡ 0 → a ≡ aged m t → u ≡ used m t
@@ -85,7 +85,7 @@ module _ (m : Meter) (t d : ℕ) where
         };
         answer = record { number = n; left = leftOf (m .window) (m .budget) (u + d) };
       } ≡ stepped m t d
-  unfolding stepped acceptedStep ringLeft withOffer
+  unfolding stepped acceptedStep withOffer
   step-accepted n a u first at g z e f p q = rw (← g, z, ← f, ← e, p, q)
 
 -- where the ways meet: a meter and its records are those of the way taken

@@ -75,27 +75,22 @@ agedFrom f w t (suc n) i = elim (leb (f i .minute + w) t) [ true ↦ suc (agedFr
 abbrev pub laterOf : ℕ → ℕ → ℕ → ℕ
 laterOf count last t = cond (eqb count 0) t (max t last)
 
-unfoldable pub ringLater : Meter → ℕ → ℕ
-ringLater m t = laterOf (m .count) (m .last) t
-
 -- how many of the oldest are out of the window that ends there, and the records of the others
 unfoldable pub aged : Meter → ℕ → ℕ
-aged m t = agedFrom (heldReport m) (m .window) (ringLater m t) (m .count) 0
+aged m t = agedFrom (heldReport m) (m .window) (laterOf (m .count) (m .last) t) (m .count) 0
 
 unfoldable pub used : Meter → ℕ → ℕ
 used m t = m .records - sum (λ i. heldReport m i .size) (aged m t)
 
--- before the last accepted minute plus smin
+-- whether an offer comes before the last accepted minute plus smin
 abbrev pub earlyOf : ℕ → ℕ → ℕ → ℕ → Bool
 earlyOf count last smin t = cond (eqb count 0) false (ltb t (last + smin))
 
-unfoldable pub ringEarly : Meter → ℕ → Bool
-ringEarly m t = earlyOf (m .count) (m .last) (m .smin) t
-
+-- the first of 13, 14, 15 and 22 that applies, or 0
 unfoldable pub ringNumber : Meter → ℕ → ℕ → ℕ
 ringNumber m t d =
     firstOf
-    (ringEarly m t)
+    (earlyOf (m .count) (m .last) (m .smin) t)
     (not (between (m .dmin) (m .dmax) d))
     (ltb (m .budget) (used m t + d))
     (leb 1024 (m .count - aged m t))
@@ -103,9 +98,6 @@ ringNumber m t d =
 -- the budget less so many records, told where there is a window
 unfoldable pub leftOf : ℕ → ℕ → ℕ → Left
 leftOf window budget records = cond (eqb window 0) Untold (Records (budget - records))
-
-unfoldable pub ringLeft : Meter → ℕ → Left
-ringLeft m records = leftOf (m .window) (m .budget) records
 
 -- the meter with a report more, and without those that are out of the window
 unfoldable pub withOffer : Meter → ℕ → ℕ → Meter
@@ -125,10 +117,10 @@ withOffer m t d = record {
 
 -- an offer of d records at minute t that is accepted, and one that is refused
 unfoldable pub acceptedStep : Meter → ℕ → ℕ → Stepped
-acceptedStep m t d = record { meter = withOffer m t d; answer = record { number = 0; left = ringLeft m (used m t + d) } }
+acceptedStep m t d = record { meter = withOffer m t d; answer = record { number = 0; left = leftOf (m .window) (m .budget) (used m t + d) } }
 
 unfoldable pub refusedStep : Meter → ℕ → ℕ → Stepped
-refusedStep m t d = record { meter = m; answer = record { number = ringNumber m t d; left = ringLeft m (used m t) } }
+refusedStep m t d = record { meter = m; answer = record { number = ringNumber m t d; left = leftOf (m .window) (m .budget) (used m t) } }
 
 unfoldable pub stepped : Meter → ℕ → ℕ → Stepped
 stepped m t d = cond (eqb (ringNumber m t d) 0) (acceptedStep m t d) (refusedStep m t d)

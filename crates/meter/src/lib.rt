@@ -266,7 +266,7 @@ fn left_of(window: u16, budget: u16, records: u16) -> Left
 pub fn step(m: Meter, minute: u32, size: u32) -> Stepped
     ensures { λ r. ⌜ r ≡ stepped m minute size ⌝ }
 {
-    // Everything is read from the copy that is changed, so that a compiler can do without the first one.
+    // One copy is read and changed, and there is one way out: so a compiler need copy a lent meter only in, and out where it changed.
     let mut next = m;
     let first = next.first;
     let count = next.count;

@@ -27,7 +27,7 @@ use sound.WpLaws.{FmC, fmOf, WpFn-mono}
 use denote.RattleType.{owns}
 use denote.Laws.{Is, shows}
 use denote.Memory.{mem, cellAt, pointee}
-use denote.Plain.{uint-makes, uint-lawful}
+use denote.Plain.{uint-makes}
 use denote.Builtin.{u8, u32}
 use denote.Ref.{RefT, MutRef, ptr-vals, mut-tells}
 use denote.Slice.{sliceVal, sliceTy, ShrSlice, Room, slice-vals, shr-slice-tells, shr-slice-copy}

@@ -3,8 +3,6 @@ use borrow.Author.Tests.{eq-eqb, ne-eqb}
 use borrow.Author.Needs.{needs}
 use Rattle.meter.proofs.early_of.Statement.{statement}
 use Rattle.meter.proofs.early_of.Tie as tie
-use Rattle.meter.proofs.early_of.Reads as reads
-use Rattle.meter.proofs.early_of.Lts as lts
 
 returns : tie.Need-returns
 returns c = rw (eq-eqb _ _ (c .if1 .taken))

@@ -2,11 +2,6 @@
 use borrow.Author.Needs.{needs}
 use Rattle.meter.proofs.fresh_of.Statement.{statement}
 use Rattle.meter.proofs.fresh_of.Tie as tie
-use Rattle.meter.proofs.fresh_of.Reads as reads
-use Rattle.meter.proofs.fresh_of.Lts as lts
-use Rattle.meter.proofs.budget_of.Reads as budget-of-reads
-use Rattle.meter.proofs.holds_nothing.Reads as holds-nothing-reads
-use Rattle.meter.proofs.window_of.Reads as window-of-reads
 
 budget-of-requires : tie.Need-budget-of-requires
 budget-of-requires c κs = search needs

@@ -4,9 +4,6 @@ use Rattle.meter.specs.Ring.{leftOf}
 use borrow.Author.Needs.{needs}
 use Rattle.meter.proofs.left_of.Statement.{statement}
 use Rattle.meter.proofs.left_of.Tie as tie
-use Rattle.meter.proofs.left_of.Reads as reads
-use Rattle.meter.proofs.left_of.Lts as lts
-use Rattle.meter.proofs.less.Reads as less-reads
 
 returns : tie.Need-returns
 unfolding leftOf

@@ -3,10 +3,6 @@ use Rattle.meter.specs.Ring.{made}
 use borrow.Author.Needs.{needs}
 use Rattle.meter.proofs.made_of.Statement.{statement}
 use Rattle.meter.proofs.made_of.Tie as tie
-use Rattle.meter.proofs.made_of.Reads as reads
-use Rattle.meter.proofs.made_of.Lts as lts
-use Rattle.meter.proofs.fresh_of.Reads as fresh-of-reads
-use Rattle.meter.proofs.holds_nothing.Reads as holds-nothing-reads
 
 enum-known-read : tie.Need-enum-known-read
 enum-known-read c = search needs

@@ -2,10 +2,6 @@
 use borrow.Author.Needs.{needs}
 use Rattle.meter.proofs.make.Statement.{statement}
 use Rattle.meter.proofs.make.Tie as tie
-use Rattle.meter.proofs.make.Reads as reads
-use Rattle.meter.proofs.make.Lts as lts
-use Rattle.meter.proofs.made_of.Reads as made-of-reads
-use Rattle.spec.proofs.accepted.Reads as accepted-reads
 
 accepted-requires : tie.Need-accepted-requires
 accepted-requires c κs = search needs

@@ -2,10 +2,6 @@
 use borrow.Author.Needs.{needs}
 use Rattle.meter.proofs.make_from.Statement.{statement}
 use Rattle.meter.proofs.make_from.Tie as tie
-use Rattle.meter.proofs.make_from.Reads as reads
-use Rattle.meter.proofs.make_from.Lts as lts
-use Rattle.meter.proofs.made_of.Reads as made-of-reads
-use Rattle.spec.proofs.read_spec.Reads as read-spec-reads
 
 read-spec-requires : tie.Need-read-spec-requires
 read-spec-requires c κs = search needs

@@ -1,13 +1,13 @@
--- `step` meets its contract. Up to the number both paths are one: the walk gives `aged`, what is left of the records is `used`, and the four tests are
--- the definition's. Of an offer that is accepted the tests say that what is stored fits: the size is at most dmax, the records are at most the
--- budget, and fewer than 1,024 reports count.
+-- `step` meets its contract. The walk gives `aged`, what is left of the records is `used`, and the four tests are the definition's: so the number is.
+-- Of an offer that is accepted the tests say that what is stored fits: the size is at most dmax, the records are at most the budget, and fewer than
+-- 1,024 reports count. Where the ways meet again, the meter is the one that was changed or the one that was handed in.
 use Prim.Native.Nat.{ℕ, _+_, _-_, _≤_, _<_}
 use native.Mathlib.Omega.{arith}
 use mathlib.Core.Path.{_≡_, sym, _∙_}
-use lib.Dec.{leb, ltb}
-use borrow.Author.Needs.{needs}
 use mathlib.Core.Logic.{⊎-elim}
 use mathlib.Core.Bool.{not}
+use lib.Dec.{leb, ltb}
+use borrow.Author.Needs.{needs}
 use borrow.Author.Tests.{ltb-false, leb-false, not-false}
 use Rattle.spec.specs.Limits.{between}
 use Rattle.spec.proofs.Facts.{between-iff}
