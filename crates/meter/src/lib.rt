@@ -126,15 +126,15 @@ fn fresh_of(spec: Spec) -> Meter
 fn made_of(read: SpecRead) -> Made
     ensures { λ r. ⌜ r ≡ made read ⌝ }
 {
-    match read {
-        SpecRead::Accepted(spec) => Made {
-            number: 0,
-            meter: fresh_of(spec),
-        },
-        SpecRead::Refused(number) => Made {
-            number,
+    let SpecRead::Accepted(s) = read else {
+        return Made {
+            number: spec::read_number(read),
             meter: holds_nothing(1, 0, 0, 0, 0),
-        },
+        };
+    };
+    Made {
+        number: 0,
+        meter: fresh_of(s),
     }
 }
 
