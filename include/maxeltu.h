@@ -14,8 +14,9 @@
  *  - A specification passes as the bytes of its file. A call that takes one
  *    answers MAXELTU_SPEC_MAP, _LENGTH, _LIMITS or _ORDER before anything else.
  *  - What a pointer parameter is called to hand back is written only where the
- *    answer is 0, and `condition` only where it is MAXELTU_INCONSISTENT. In
- *    every other case the place behind it keeps what it held.
+ *    answer is 0, `condition` only where it is MAXELTU_INCONSISTENT, and `left`
+ *    after every offer to a meter with a supply rate, refused ones too. In every
+ *    other case the place behind it keeps what it held.
  *  - No pointer may be null. For an empty list or empty bytes (length 0) pass
  *    any pointer that is not null; nothing is read or written behind it. (A null
  *    pointer with length 0 is taken for an empty list or empty bytes by this
@@ -28,9 +29,10 @@
  *    and callers have one type for all of them.
  *  - The places behind two pointers of one call must not overlap, unless the
  *    call only reads both of them.
- *  - No call keeps a pointer, allocates, prints, or holds state between calls:
- *    calls from several threads at once are fine as long as they share no place
- *    that one of them writes.
+ *  - No call keeps a pointer, allocates, prints, or holds state between calls
+ *    (what a meter has accepted stands in the caller's struct): calls from
+ *    several threads at once are fine as long as they share no place that one of
+ *    them writes. So one meter belongs to one thread at a time.
  *
  * Specification file: one byte of bit map (bit 0, the lowest, size; 1 gap;
  * 2 supply; 3 demand; 4 duration). Then, in that order, the pairs whose bit
@@ -73,11 +75,11 @@ enum maxeltu_refusal {
     MAXELTU_NO_EVEN_PLAN = 10,    /* at no gap of the range does any endless list of sizes obey the rules */
     MAXELTU_PLAN_IMPROPER = 11,   /* the plan is not proper */
 
-    /* Checking a cycle. */
+    /* Checking a cycle; 13 to 15 also of an offer to a meter. */
     MAXELTU_COUNT = 12,           /* the count of pairs is 0 or above MAXELTU_MAX_PAIRS */
-    MAXELTU_GAP = 13,             /* some gap is out of the specification's range */
-    MAXELTU_SIZE = 14,            /* some size is out of the specification's range */
-    MAXELTU_TOO_FULL = 15,        /* some R minutes hold more than B records */
+    MAXELTU_GAP = 13,             /* some gap is out of the specification's range; the offer comes too early */
+    MAXELTU_SIZE = 14,            /* some size, or the offer's, is out of the specification's range */
+    MAXELTU_TOO_FULL = 15,        /* some R minutes hold more than B records, or would with the offer */
     MAXELTU_TOO_THIN = 16,        /* some P minutes hold fewer than L records */
 
     /* A cycle's file, and the room lent for a cycle or its file. */
@@ -85,7 +87,10 @@ enum maxeltu_refusal {
     MAXELTU_FILE_CUT = 18,        /* the file ends early, in its count, a map byte or a field: fetch it again */
     MAXELTU_FIELD_REPEATED = 19,  /* a field that should have been left out: it equals the one before */
     MAXELTU_NO_ROOM = 20,         /* the lent list or the lent bytes are too few */
-    MAXELTU_BYTES_OVER = 21       /* bytes follow the last pair, and all pairs are right: write to the carrier */
+    MAXELTU_BYTES_OVER = 21,      /* bytes follow the last pair, and all pairs are right: write to the carrier */
+
+    /* An offer to a meter. */
+    MAXELTU_NO_PLACE = 22         /* 1,024 accepted reports lie in those R minutes already: the meter cannot hold more */
 };
 
 /* Limits. Each value of a specification is at least 1 and at most: */
@@ -98,7 +103,8 @@ enum maxeltu_limit {
 
     MAXELTU_MAX_PAIRS = 512,      /* pairs in a cycle */
     MAXELTU_MAX_SPEC_FILE = 21,   /* bytes of the longest specification file */
-    MAXELTU_MAX_CYCLE_FILE = 2562 /* bytes of the longest cycle file: 2 + 512 * 5 */
+    MAXELTU_MAX_CYCLE_FILE = 2562, /* bytes of the longest cycle file: 2 + 512 * 5 */
+    MAXELTU_METER_PLACES = 1024   /* reports that a meter can hold */
 };
 
 /* The kinds of a plan, for maxeltu_report. */
@@ -114,6 +120,34 @@ enum maxeltu_kind {
 struct maxeltu_pair {
     uint16_t gap;
     uint16_t size;
+};
+
+/*
+ * A budget meter, kept by the box: it takes offers of reports one by one, and
+ * refuses those with which some R minutes would hold more than B records.
+ * maxeltu_make_meter makes one, and maxeltu_offer changes it.
+ *
+ * The fields are the library's. The layout is fixed: 6164 bytes with alignment
+ * 4, no padding, each field at the offset beside it. The reports that are held
+ * are the last of the accepted ones; of these report i, from the oldest on,
+ * stands at place (first + i) % 1024 of both arrays.
+ *
+ * A struct that is copied byte for byte is a meter of the same state, so a box
+ * may keep it over a restart. One that was never made, or was overwritten, is
+ * safe to offer to: nothing outside it and `left` is read or written, and the
+ * answer is one of those below; but the answers mean nothing.
+ */
+struct maxeltu_meter {
+    uint16_t dmin, dmax;          /*  0,  2: the sizes that are allowed */
+    uint16_t smin;                /*  4: the least gap */
+    uint16_t budget;              /*  6: B; with no supply rate 20,000 */
+    uint16_t window;              /*  8: R; with no supply rate 0 */
+    uint16_t records;             /* 10: the records of the reports that are held */
+    uint16_t first;               /* 12: the place of the oldest of them */
+    uint16_t count;               /* 14: how many are held */
+    uint32_t last;                /* 16: the last accepted minute */
+    uint32_t minutes[MAXELTU_METER_PLACES]; /* 20 */
+    uint16_t sizes[MAXELTU_METER_PLACES];   /* 4116 */
 };
 
 /*
@@ -261,6 +295,40 @@ uint32_t maxeltu_read_cycle(const uint8_t *file, size_t file_len,
  */
 uint32_t maxeltu_write_cycle(const struct maxeltu_pair *pairs, size_t count,
                              uint8_t *file, size_t room, uint32_t *written);
+
+/*
+ * Makes a meter for a specification, which has accepted nothing yet. Of the
+ * specification it keeps dmin, dmax, smin, B and R.
+ *
+ * Answers 0; 1 to 4.
+ * Writes all of *meter: records, first, count, last and both arrays are 0. Where
+ * the answer is not 0, *meter keeps every byte.
+ */
+uint32_t maxeltu_make_meter(const uint8_t *spec, size_t spec_len,
+                            struct maxeltu_meter *meter);
+
+/*
+ * Offers a report of `size` records at this minute to a meter. The R minutes
+ * that end with minute t are those above t - R and up to t (from 0 on where t is
+ * below R).
+ *
+ * Answers 0 where the offer is accepted; 13 where something has been accepted
+ * and the minute is before the last accepted one plus smin (this sum may pass
+ * 2^32 - 1: then everything is too early); 14 where the size is out of dmin to
+ * dmax; 15 where the accepted records of the R minutes that end with this one,
+ * plus the size, exceed B; 22 where 1,024 accepted reports already lie in those
+ * R minutes, and the meter cannot hold more. With no supply rate it answers
+ * neither 15 nor 22.
+ * A clock that was set back gets 13. Only accepted minutes count for that: before
+ * anything is accepted, a minute may come before one that was offered earlier.
+ * A gap above smax is no refusal: a late van must still be heard.
+ * Writes *meter only where the answer is 0. Writes *left, whatever the answer:
+ * the budget left, B less the accepted records of the R minutes that end with
+ * the later of the offered and the last accepted minute (with the offered one
+ * while nothing has been accepted). With no supply rate *left keeps what it held.
+ */
+uint32_t maxeltu_offer(struct maxeltu_meter *meter, uint32_t minute,
+                       uint32_t size, uint32_t *left);
 
 #ifdef __cplusplus
 }

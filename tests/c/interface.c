@@ -1,5 +1,5 @@
 /*
- * The ten calls from C, through include/maxeltu.h: the samples, every refusal
+ * The twelve calls from C, through include/maxeltu.h: the samples, every refusal
  * of every call, and the places that a call must leave as they were.
  *
  * Prints a line for each group, whose name starts with the argument if there is
@@ -116,6 +116,37 @@ static uint32_t even_plan(struct spec_file s)
     return maxeltu_even_plan(SPEC(s), &places[0], &places[1], &places[2]);
 }
 
+/* A meter between numbers that no call may touch; `former` is what it held before the last call. */
+static struct {
+    uint32_t before[4];
+    struct maxeltu_meter meter;
+    uint32_t after[4];
+} lent, former;
+
+static void fill_meter(int byte) { memset(&lent, byte, sizeof lent); }
+static bool meter_untouched(void) { return memcmp(&lent, &former, sizeof lent) == 0; }
+
+/* All around the meter is untouched. */
+static bool meter_kept_within(void)
+{
+    return memcmp(lent.before, former.before, sizeof lent.before) == 0
+        && memcmp(lent.after, former.after, sizeof lent.after) == 0;
+}
+
+static uint32_t make_meter(struct spec_file s)
+{
+    former = lent;
+    return maxeltu_make_meter(SPEC(s), &lent.meter);
+}
+
+/* The budget left comes to the first place. */
+static uint32_t offer(uint32_t minute, uint32_t size)
+{
+    fill_places();
+    former = lent;
+    return maxeltu_offer(&lent.meter, minute, size, &places[0]);
+}
+
 /* The places from here to the end are untouched, and those before it hold these numbers. */
 static bool hold(size_t numbers, ...)
 {
@@ -212,6 +243,8 @@ static void refused_everywhere(struct spec_file s, uint32_t refusal)
     CHECK(even_plan(s) == refusal && untouched());
     CHECK(maxeltu_check_cycle(SPEC(s), &pair, 1) == refusal);
     CHECK(maxeltu_check_cycle(SPEC(s), &pair, 0) == refusal);
+    fill_meter(0x5A);
+    CHECK(make_meter(s) == refusal && meter_untouched());
 }
 
 static void refusals_of_specifications(void)
@@ -422,6 +455,168 @@ static void longest_cycle(void)
     end();
 }
 
+/* ---- meters ---- */
+
+/* A meter for this specification, made over bytes that are not 0. */
+static void fresh_meter(struct spec_file s)
+{
+    fill_meter(0x5A);
+    CHECK(make_meter(s) == MAXELTU_OK && meter_kept_within());
+}
+
+/* The offer is accepted, with so many records left, and nothing around the meter is written. */
+static bool accepted(uint32_t minute, uint32_t size, uint32_t left)
+{
+    return offer(minute, size) == MAXELTU_OK && hold(1, left) && meter_kept_within() && !meter_untouched();
+}
+
+/* The offer is refused, with so many records left, and the meter keeps every byte. */
+static bool refused(uint32_t refusal, uint32_t minute, uint32_t size, uint32_t left)
+{
+    return offer(minute, size) == refusal && hold(1, left) && meter_untouched();
+}
+
+static void layout_of_a_meter(void)
+{
+    begin("meter: layout, and what a fresh one holds");
+    CHECK(sizeof (struct maxeltu_meter) == 6164 && _Alignof(struct maxeltu_meter) == 4);
+    CHECK(offsetof(struct maxeltu_meter, dmin) == 0 && offsetof(struct maxeltu_meter, dmax) == 2);
+    CHECK(offsetof(struct maxeltu_meter, smin) == 4 && offsetof(struct maxeltu_meter, budget) == 6);
+    CHECK(offsetof(struct maxeltu_meter, window) == 8 && offsetof(struct maxeltu_meter, records) == 10);
+    CHECK(offsetof(struct maxeltu_meter, first) == 12 && offsetof(struct maxeltu_meter, count) == 14);
+    CHECK(offsetof(struct maxeltu_meter, last) == 16 && offsetof(struct maxeltu_meter, minutes) == 20);
+    CHECK(offsetof(struct maxeltu_meter, sizes) == 4116);
+    fresh_meter(sample_b(15));
+    struct maxeltu_meter wanted = { .dmin = 2, .dmax = 3, .smin = 5, .budget = 15, .window = 26 };
+    CHECK(memcmp(&lent.meter, &wanted, sizeof wanted) == 0);
+    fresh_meter(spec_of(27, 8, 2, 3, 5, 9, 10, 20, 20, 30));
+    wanted = (struct maxeltu_meter){ .dmin = 2, .dmax = 3, .smin = 5, .budget = 20000 };
+    CHECK(memcmp(&lent.meter, &wanted, sizeof wanted) == 0);
+    end();
+}
+
+/* The list of samples/b15.offers, with a copy of the meter in its middle. */
+static void sample_of_a_meter(void)
+{
+    begin("meter: sample B with 15");
+    fresh_meter(sample_b(15));
+    CHECK(refused(MAXELTU_SIZE, 9, 4, 15));
+    CHECK(accepted(3, 3, 12));
+    CHECK(accepted(8, 3, 9));
+    /* Far ahead nothing is left of these two; but as it is refused, they stay. */
+    CHECK(refused(MAXELTU_SIZE, 1000, 9, 15));
+    struct maxeltu_meter copy = lent.meter;
+    CHECK(accepted(1000, 3, 12));
+    lent.meter = copy;
+    CHECK(accepted(13, 3, 6));
+    CHECK(refused(MAXELTU_GAP, 17, 3, 6));
+    CHECK(accepted(18, 3, 3));
+    CHECK(accepted(23, 3, 0));
+    CHECK(refused(MAXELTU_SIZE, 28, 1, 0));
+    CHECK(refused(MAXELTU_TOO_FULL, 28, 3, 0));
+    CHECK(accepted(29, 3, 0));
+    CHECK(lent.meter.first == 1 && lent.meter.count == 5 && lent.meter.records == 15 && lent.meter.last == 29);
+    end();
+}
+
+static void refusals_of_offers(void)
+{
+    begin("meter: refusals 13 to 15, clocks set back, wide sizes");
+    fresh_meter(sample_b(15));
+    static const uint32_t sizes[] = { 0, 1, 4, 65535, 65536, 65536 + 2, 65537, 131072 + 3, 0x80000002, 0xFFFF0003, 0xFFFFFFFF };
+    for (size_t i = 0; i < sizeof sizes / sizeof *sizes; i++)
+        CHECK(refused(MAXELTU_SIZE, 40, sizes[i], 15));
+    /* Nothing has been accepted: an earlier minute is none too early. */
+    CHECK(accepted(30, 2, 13));
+    CHECK(refused(MAXELTU_GAP, 34, 2, 13));
+    CHECK(refused(MAXELTU_GAP, 30, 2, 13));
+    CHECK(refused(MAXELTU_GAP, 0, 2, 13));
+    CHECK(refused(MAXELTU_GAP, 34, 65537, 13));
+    CHECK(refused(MAXELTU_SIZE, 35, 65537, 13));
+    CHECK(refused(MAXELTU_SIZE, 55, 4, 13));
+    CHECK(refused(MAXELTU_SIZE, 56, 4, 15));
+    CHECK(accepted(35, 3, 10));
+    fresh_meter(spec_of(7, 6, 1, 1000, 1, 1, 1000, 60));
+    CHECK(accepted(0, 600, 400));
+    CHECK(refused(MAXELTU_TOO_FULL, 59, 401, 400));
+    CHECK(refused(MAXELTU_SIZE, 59, 65536 + 400, 400));
+    CHECK(accepted(59, 400, 0));
+    CHECK(refused(MAXELTU_TOO_FULL, 60, 601, 600));
+    CHECK(accepted(60, 600, 0));
+    end();
+}
+
+static void last_minutes_of_a_meter(void)
+{
+    begin("meter: up to minute 2^32 - 1");
+    static const uint32_t after[] = { 0xFFFFFFFF, 0xFFFFFFFE, 0xFFFFFFFD, 0, 1, 2, 3, 4, 5, 1000, 0x80000000 };
+    fresh_meter(sample_b(15));
+    CHECK(accepted(0xFFFFFFFE, 3, 12));
+    for (size_t i = 0; i < sizeof after / sizeof *after; i++)
+        CHECK(refused(MAXELTU_GAP, after[i], 3, 12));
+    /* Minute plus R passes 2^32, and the report is still in the window. */
+    fresh_meter(sample_b(15));
+    CHECK(accepted(0xFFFFFFF0, 3, 12));
+    CHECK(accepted(0xFFFFFFFF, 3, 9));
+    end();
+}
+
+/* Reports of one record at 1,024 minutes that follow each other, from this one on. */
+static void fill_ring(uint32_t first, uint32_t budget)
+{
+    for (uint32_t i = 0; i < MAXELTU_METER_PLACES; i++)
+        CHECK(accepted(first + i, 1, budget - i - 1));
+    CHECK(lent.meter.count == MAXELTU_METER_PLACES && lent.meter.records == MAXELTU_METER_PLACES);
+}
+
+static void places_of_a_meter(void)
+{
+    begin("meter: refusal 22, and places again");
+    fresh_meter(spec_of(7, 6, 1, 2, 1, 1, 20000, 2000));
+    fill_ring(7, 20000);
+    CHECK(refused(MAXELTU_NO_PLACE, 1031, 1, 18976));
+    CHECK(refused(MAXELTU_NO_PLACE, 2006, 2, 18976));
+    CHECK(refused(MAXELTU_GAP, 1030, 1, 18976));
+    CHECK(refused(MAXELTU_SIZE, 1031, 65537, 18976));
+    CHECK(accepted(2007, 2, 18975));
+    CHECK(lent.meter.first == 1 && lent.meter.count == MAXELTU_METER_PLACES);
+    CHECK(lent.meter.minutes[0] == 2007 && lent.meter.sizes[0] == 2);
+    CHECK(accepted(4007, 1, 19999));
+    CHECK(lent.meter.first == 1 && lent.meter.count == 1 && lent.meter.minutes[1] == 4007);
+    /* Too many records come before too many reports. */
+    fresh_meter(spec_of(7, 6, 1, 2, 1, 1, 1024, 2000));
+    fill_ring(0, 1024);
+    CHECK(refused(MAXELTU_TOO_FULL, 1024, 1, 0));
+    end();
+}
+
+static void meter_without_supply(void)
+{
+    begin("meter: no supply rate");
+    fresh_meter(spec_of(3, 4, 1, 1000, 1, 1));
+    for (uint32_t i = 0; i < 3 * MAXELTU_METER_PLACES; i++)
+        CHECK(offer(i, 1000) == MAXELTU_OK && untouched() && meter_kept_within());
+    CHECK(lent.meter.count == 1 && lent.meter.records == 1000);
+    CHECK(offer(0, 1000) == MAXELTU_GAP && untouched() && meter_untouched());
+    CHECK(offer(9999, 1001) == MAXELTU_SIZE && untouched() && meter_untouched());
+    end();
+}
+
+/* What such a meter answers means nothing; but it is an answer, and nothing around the meter is written. */
+static void overwritten_meter(void)
+{
+    begin("meter: overwritten");
+    static const uint32_t numbers[] = { 0, 1, 5, 1000, 0x5A5A, 0xFFFF, 0x10000, 0x5A5A5A5A, 0xFFFFFFFF };
+    for (int byte = 0; byte < 256; byte++)
+        for (size_t i = 0; i < 81; i++) {
+            fill_meter(byte);
+            uint32_t answer = offer(numbers[i / 9], numbers[i % 9]);
+            CHECK(meter_kept_within() && untouched_from(1) && (answer == MAXELTU_OK || meter_untouched()));
+            CHECK(answer == MAXELTU_OK || (answer >= MAXELTU_GAP && answer <= MAXELTU_TOO_FULL) || answer == MAXELTU_NO_PLACE);
+        }
+    end();
+}
+
 /* Not promised: the header tells that this build takes null with length 0 for an empty list or empty bytes. */
 static void null_for_empty(void)
 {
@@ -438,6 +633,8 @@ static void null_for_empty(void)
     CHECK(maxeltu_write_cycle(NULL, 0, file, sizeof file, &places[0]) == MAXELTU_COUNT);
     CHECK(maxeltu_write_cycle(&(struct maxeltu_pair){ .gap = 5, .size = 2 }, 1, NULL, 0, &places[0]) == MAXELTU_NO_ROOM);
     CHECK(untouched());
+    former = lent;
+    CHECK(maxeltu_make_meter(NULL, 0, &lent.meter) == MAXELTU_SPEC_MAP && meter_untouched());
     end();
 }
 
@@ -453,6 +650,13 @@ int main(int argc, char **argv)
     reading_cycles();
     writing_cycles();
     longest_cycle();
+    layout_of_a_meter();
+    sample_of_a_meter();
+    refusals_of_offers();
+    last_minutes_of_a_meter();
+    places_of_a_meter();
+    meter_without_supply();
+    overwritten_meter();
     null_for_empty();
     printf("%u passed, %u failed\n", passed_groups, failed_groups);
     return failed_groups > 0;
