@@ -25,7 +25,7 @@ pub fn all(runner: &mut Runner) {
     runner.random("plans obey the rules", RUNS / 2, &[0, 1, 2], obeying_case);
 }
 
-fn hex(bytes: &[u8]) -> String {
+pub fn hex(bytes: &[u8]) -> String {
     bytes.iter().map(|b| format!("{b:02x}")).collect()
 }
 

@@ -3,10 +3,12 @@
 use crate::calls::expected;
 use crate::group::Runner;
 use crate::library::{Library, Outcome};
+use crate::ring::{Meter, BYTES};
 use reference::feasibility::{self, Failure};
+use reference::meter::{Machine, Report};
 use reference::{cycle, even, file, spec, verdict, Kind, Pair, Plan, Spec};
 use std::fmt::Debug;
-use std::path::Path;
+use std::path::{Path, PathBuf};
 
 type Numbers = (u64, u64);
 
@@ -30,6 +32,9 @@ pub fn both_rates(size: Numbers, gap: Numbers, supply: Numbers, demand: Numbers)
 const HELD: u32 = 0xA5A5_A5A5;
 const HELD_PAIR: Pair = Pair { gap: 0xA5A5, size: 0xA5A5 };
 const HELD_BYTE: u8 = 0xA5;
+
+/// An offer to a meter, its number, and the budget left after it, where there is a supply rate: minute, size, number, left.
+pub type Offer = (u64, u64, u32, Option<u64>);
 
 pub struct Checks {
     library: Library,
@@ -75,9 +80,11 @@ impl Checks {
             library.max_supply(file, 1, [HELD; 3]),
             library.test(file, [HELD; 5]),
             library.even_plan(file, [HELD; 3]),
+            remade(library, file),
         );
         let three = expected(Err(wanted), [HELD; 3]);
-        let all = (wanted, wanted, expected(Err(wanted), [HELD]), three, three, expected(Err(wanted), [HELD; 5]), three);
+        let kept = (wanted, true);
+        let all = (wanted, wanted, expected(Err(wanted), [HELD]), three, three, expected(Err(wanted), [HELD; 5]), three, kept);
         self.holds(format!("library, {name}: {got:?}, not {wanted}"), got == all);
         let read = spec::read(file);
         self.holds(format!("reference, {name}: {read:?}, not {wanted}"), read == Err(wanted));
@@ -202,11 +209,60 @@ impl Checks {
         self.both(&format!("{name}, written into {room} bytes"), got, reference, outcome(wanted.map(<[u8]>::to_vec)));
     }
 
+    /// A meter of this specification has these numbers, dmin, dmax, smin, B and R, and is 0 otherwise.
+    pub fn meter(&mut self, name: &str, spec: &Spec, wanted: [u16; 5]) {
+        let mut meter = Meter::of_bytes([HELD_BYTE; BYTES]);
+        let answer = self.library.make_meter(&spec::write(spec), &mut meter);
+        let mut bytes = wanted.map(u16::to_ne_bytes).concat();
+        bytes.resize(BYTES, 0);
+        self.holds(format!("library, {name}, meter: {answer}, not 0"), answer == 0);
+        self.holds(format!("library, {name}, bytes of the meter"), meter.bytes() == bytes[..]);
+        self.holds(format!("ring, {name}, bytes of the meter"), Meter::fresh(spec).bytes() == bytes[..]);
+    }
+
+    /// A meter made from this file, or the refusal, which leaves every byte of the former one, and writes none.
+    pub fn made(&mut self, name: &str, file: &[u8], wanted: u32) {
+        let (got, kept) = remade(&mut self.library, file);
+        self.both(&format!("{name}, meter"), got, spec::read(file).err().unwrap_or(0), wanted);
+        self.holds(format!("library, {name}, bytes of the meter"), kept == (wanted != 0));
+        if wanted != 0 {
+            let again = self.library.make_no_meter(file, &Meter::of_bytes([HELD_BYTE; BYTES]));
+            self.holds(format!("library, {name}, meter again: {again}"), again == wanted);
+        }
+    }
+
+    /// Offers to a meter that is made for them, one after the other. One that is refused is refused again, and writes nothing.
+    pub fn offers(&mut self, name: &str, spec: &Spec, offers: &[Offer]) {
+        let mut meter = Meter::of_bytes([HELD_BYTE; BYTES]);
+        self.library.make_meter(&spec::write(spec), &mut meter);
+        let mut machine = Machine::new(spec);
+        for (i, &(minute, size, number, left)) in offers.iter().enumerate() {
+            let outcome = |(answer, left): (u32, Option<u64>)| Outcome { answer, places: [left.map_or(HELD, |n| n as u32)] };
+            let got = self.library.offer(&mut meter, minute as u32, size as u32, HELD);
+            let reference = outcome(machine.offer(Report { minute, size }));
+            self.both(&format!("{name}, offer {i} ({minute}, {size})"), got, reference, outcome((number, left)));
+            if number != 0 {
+                let again = self.library.refused_offer(&meter, minute as u32, size as u32);
+                self.holds(format!("library, {name}, offer {i} again: {again}"), again == number);
+            }
+        }
+    }
+
     /// A file in samples/ is that of these numbers.
     pub fn file(&mut self, name: &str, wanted: &[u8]) {
-        let path = Path::new(env!("CARGO_MANIFEST_DIR")).join("../../samples").join(name);
-        self.holds(format!("samples/{name}"), std::fs::read(path).is_ok_and(|bytes| bytes == wanted));
+        self.holds(format!("samples/{name}"), std::fs::read(sample(name)).is_ok_and(|bytes| bytes == wanted));
     }
+}
+
+/// The path of a file in samples/.
+pub fn sample(name: &str) -> PathBuf {
+    Path::new(env!("CARGO_MANIFEST_DIR")).join("../../samples").join(name)
+}
+
+/// What making a meter anew answers, and whether it leaves every byte of the former one.
+fn remade(library: &mut Library, file: &[u8]) -> (u32, bool) {
+    let mut meter = Meter::of_bytes([HELD_BYTE; BYTES]);
+    (library.make_meter(file, &mut meter), meter.bytes() == [HELD_BYTE; BYTES])
 }
 
 fn pairs_of(pairs: &[(u16, u16)]) -> Vec<Pair> {

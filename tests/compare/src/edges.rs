@@ -1,7 +1,7 @@
-//! The edges of document 01's conditions and rules: what is just kept, and what breaks by one. Every answer is worked out by hand
-//! from the document, and asked of the library and of the reference.
+//! The edges of document 01's conditions and rules, and of document 02's meter: what is just kept, and what breaks by one. Every
+//! answer is worked out by hand from the documents, and asked of the library and of the reference.
 
-use crate::checks::{self, both_rates, demand_only, no_rates, supply_only, Checks};
+use crate::checks::{self, both_rates, demand_only, no_rates, supply_only, Checks, Offer};
 use crate::group::Runner;
 use reference::feasibility::Failure::{Inconsistent, Refused};
 use reference::Spec;
@@ -14,6 +14,10 @@ pub fn all(runner: &mut Runner) {
     checks::group(runner, "edges of a cycle's ranges", ranges);
     checks::group(runner, "stretches just full and just thin", stretches);
     checks::group(runner, "cycle files cut off and too long", cut_or_over);
+    checks::group(runner, "offers too early, and of a size out of range", early_or_sized);
+    checks::group(runner, "offers that just fit the budget", budgets);
+    checks::group(runner, "offers up to the last minute", last_minutes);
+    checks::group(runner, "offers where the places run out", places);
 }
 
 fn consistency(checks: &mut Checks) {
@@ -341,4 +345,117 @@ fn cut_or_over(checks: &mut Checks) {
     for (name, file, places, wanted) in rows {
         checks.read(&format!("{name}, and bytes over"), file, places, Err(wanted));
     }
+}
+
+/// Offers to a meter that has no budget left to tell: minute, size, number.
+fn untold(offers: &[(u64, u64, u32)]) -> Vec<Offer> {
+    offers.iter().map(|&(minute, size, number)| (minute, size, number, None)).collect()
+}
+
+/// An offer to a meter with a supply rate: minute, size, number, budget left.
+type Told = (u64, u64, u32, u64);
+
+fn told(offers: &[Told]) -> Vec<Offer> {
+    offers.iter().map(|&(minute, size, number, left)| (minute, size, number, Some(left))).collect()
+}
+
+fn early_or_sized(checks: &mut Checks) {
+    let spec = no_rates((3, 7), (5, 9));
+    // smin is 5. The greatest gap, 9, is not applied.
+    let gaps =
+        [(10, 3, 0), (14, 3, 13), (15, 3, 0), (15, 3, 13), (0, 3, 13), (19, 3, 13), (20, 3, 0), (1_000, 3, 0), (1_004, 3, 13)];
+    checks.offers("gaps", &spec, &untold(&gaps));
+    // Only an accepted minute makes another one too early.
+    checks.offers("before one that was refused", &spec, &untold(&[(1_000, 8, 14), (10, 2, 14), (3, 3, 0), (2, 3, 13)]));
+    checks.offers("13 before 14", &spec, &untold(&[(0, 3, 0), (4, 8, 13), (5, 8, 14), (5, 2, 14), (5, 7, 0)]));
+    // The last ones have 3 and 7 in their lower 16 bits.
+    let out_of_range = [0, 2, 8, 65_535, 65_536, 65_536 + 3, 65_536 + 7, 131_072 + 3, 0xFFFF_0003, 0xFFFF_0007, 0xFFFF_FFFF];
+    checks.offers("sizes", &spec, &untold(&out_of_range.map(|size| (5, size, 14))));
+    checks.offers("both ends of the sizes", &spec, &untold(&[(0, 3, 0), (5, 7, 0)]));
+    let wide = supply_only((3, 7), (5, 9), (20, 20));
+    checks.offers("sizes, with a supply rate", &wide, &told(&out_of_range.map(|size| (5, size, 14, 20))));
+}
+
+fn budgets(checks: &mut Checks) {
+    let spec = supply_only((1, 9), (1, 20), (10, 5));
+    let rows: [(&str, &[Told]); 4] = [
+        ("just full, and one too many", &[(0, 6, 0, 4), (1, 5, 15, 4), (1, 4, 0, 0), (2, 1, 15, 0)]),
+        // The report of minute 0 counts up to minute 4, and that of minute 5 up to minute 9.
+        ("until it is 5 minutes old", &[(0, 9, 0, 1), (4, 2, 15, 1), (5, 9, 0, 1), (6, 1, 0, 0), (9, 1, 15, 0), (10, 9, 0, 0)]),
+        // The budget left is that of the later minute: the last accepted one, or the offered one, far ahead.
+        ("after a refusal", &[(90, 6, 0, 4), (3, 1, 13, 4), (93, 10, 14, 4), (95, 10, 14, 10), (92, 4, 0, 0), (900, 0, 14, 10)]),
+        ("13 and 14 before 15", &[(0, 9, 0, 1), (0, 10, 13, 1), (1, 10, 14, 1), (1, 9, 15, 1)]),
+    ];
+    for (name, offers) in rows {
+        checks.offers(name, &spec, &told(offers));
+    }
+    let one_minute = supply_only((1, 9), (1, 20), (9, 1));
+    checks.offers("R 1", &one_minute, &told(&[(0, 9, 0, 0), (0, 1, 13, 0), (1, 9, 0, 0), (2, 0, 14, 9), (2, 1, 0, 8)]));
+    let never = supply_only((5, 9), (1, 20), (4, 5));
+    checks.offers("B below dmin", &never, &told(&[(7, 5, 15, 4), (3, 5, 15, 4), (3, 4, 14, 4)]));
+    // 20 reports of 1,000 records fill the largest budget, in the longest window.
+    let largest = supply_only((1, 1_000), (1, 1), (20_000, 20_160));
+    let mut offers: Vec<Told> = (0..20).map(|i| (i, 1_000, 0, 20_000 - 1_000 * (i + 1))).collect();
+    offers.extend([(20, 1, 15, 0), (20_159, 1, 15, 0), (20_160, 1_000, 0, 0), (20_161, 999, 0, 1), (20_162, 1_000, 0, 1)]);
+    checks.offers("all at the top", &largest, &told(&offers));
+}
+
+fn last_minutes(checks: &mut Checks) {
+    const LAST: u64 = u32::MAX as u64;
+    let of_gap = |smin| supply_only((1, 9), (smin, 20), (10, 26));
+    let rows: [(&str, u64, &[Told]); 4] = [
+        // The next minute would be 2^32 + 3.
+        ("smin 5", 5, &[(LAST - 1, 9, 0, 1), (LAST, 1, 13, 1), (0, 1, 13, 1), (3, 1, 13, 1), (4, 1, 13, 1)]),
+        ("smin 1", 1, &[(LAST - 1, 9, 0, 1), (LAST, 1, 0, 0), (LAST, 1, 13, 0), (0, 1, 13, 0)]),
+        ("a report that leaves the window", 1, &[(LAST - 26, 9, 0, 1), (LAST - 1, 2, 15, 1), (LAST, 2, 0, 8)]),
+        // It would leave the window at minute 2^32 + 15.
+        (
+            "a report that stays in the window",
+            1,
+            &[(LAST - 10, 9, 0, 1), (LAST - 5, 2, 15, 1), (LAST, 2, 15, 1), (LAST, 1, 0, 0)],
+        ),
+    ];
+    for (name, smin, offers) in rows {
+        checks.offers(name, &of_gap(smin), &told(offers));
+    }
+    let no_supply = no_rates((1, 9), (5, 20));
+    checks.offers("no supply rate", &no_supply, &untold(&[(LAST - 5, 9, 0), (LAST - 1, 9, 13), (LAST, 9, 0), (4, 9, 13)]));
+}
+
+/// Reports of one record at minutes 0 to 1,023, and offers after them.
+fn after_1024(b: u64, offers: &[Told]) -> Vec<Offer> {
+    let filling: Vec<Told> = (0..1_024).map(|i| (i, 1, 0, b - i - 1)).collect();
+    told(&[&filling, offers].concat())
+}
+
+fn places(checks: &mut Checks) {
+    let of_rate = |b, r| supply_only((1, 2), (1, 20), (b, r));
+    let rows: [(&str, u64, u64, &[Told]); 6] = [
+        ("the 1,025th report", 20_000, 2_000, &[(1_024, 1, 22, 18_976), (1_024, 2, 22, 18_976), (1_999, 1, 22, 18_976)]),
+        // Minute 0 is 2,000 minutes old, then minute 1; then all of them.
+        (
+            "a place again",
+            20_000,
+            2_000,
+            &[(2_000, 2, 0, 18_975), (2_000, 1, 13, 18_975), (2_001, 1, 0, 18_975), (4_001, 1, 0, 19_999)],
+        ),
+        ("13 and 14 before 22", 20_000, 2_000, &[(1_023, 1, 13, 18_976), (1_024, 3, 14, 18_976), (1_024, 1, 22, 18_976)]),
+        ("15 before 22", 1_024, 2_000, &[(1_024, 1, 15, 0), (2_000, 1, 0, 0)]),
+        ("22 where one record is left, 15 for two", 1_025, 2_000, &[(1_024, 1, 22, 1), (1_024, 2, 15, 1)]),
+        // Minutes 0 to 1,023 all lie in the 1,025 minutes that end with 1,024.
+        (
+            "R 1,025",
+            20_000,
+            1_025,
+            &[(1_024, 1, 22, 18_976), (1_025, 1, 0, 18_976), (1_026, 1, 0, 18_976), (1_027, 1, 0, 18_976)],
+        ),
+    ];
+    for (name, b, r, offers) in rows {
+        checks.offers(name, &of_rate(b, r), &after_1024(b, offers));
+    }
+    // No 1,024 minutes have more than 1,024 reports, and with no supply rate there is no window: three rounds of the ring.
+    let every_minute: Vec<Told> = (1_024..3_100).map(|minute| (minute, 1, 0, 18_976)).collect();
+    checks.offers("R 1,024", &of_rate(20_000, 1_024), &after_1024(20_000, &every_minute));
+    let no_supply: Vec<(u64, u64, u32)> = (0..3_100).map(|minute| (minute, 1, 0)).collect();
+    checks.offers("no supply rate", &no_rates((1, 2), (1, 20)), &untold(&no_supply));
 }

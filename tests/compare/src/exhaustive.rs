@@ -1,10 +1,13 @@
-//! Every specification with small numbers, for each of them every short cycle, and every small even plan: nothing here is left to
-//! chance.
+//! Every specification with small numbers, for each of them every short cycle and every short list of offers to its meter, and every
+//! small even plan: nothing here is left to chance.
 
 use crate::calls::with_condition;
-use crate::group::{same, Runner, Verdict};
+use crate::group::{same, Counts, Met, Runner, Verdict};
 use crate::library::{Library, Outcome};
+use crate::meters::Trial;
+use crate::ring::{Meter, BYTES};
 use reference::feasibility::{self, Failure};
+use reference::meter::{stretch, Report};
 use reference::schedule::LAID_OUT;
 use reference::{cycle, even, spec, Pair, Spec};
 
@@ -43,6 +46,7 @@ pub fn all(runner: &mut Runner) {
         cycle_case,
     );
     runner.every("every small even plan: rows of reports", COUNTS * TOTALS, &[0, 1], row_case);
+    runner.every("every small meter: every list of 4 offers", METERS * OFFERS, &[0, 13, 14, 15], offers_case);
 }
 
 fn test_case(number: u64, library: &mut Library) -> Verdict {
@@ -105,4 +109,44 @@ fn row_case(number: u64, library: &mut Library) -> Verdict {
         }
     }
     Ok(u32::from(total % k > 0))
+}
+
+/// Meters have sizes of 1 to 2, least gaps of 1 to 2, B and R of 1 to this or no supply rate.
+const METER_RATE: u64 = 4;
+const METERS: u64 = 3 * 2 * (METER_RATE * METER_RATE + 1);
+
+/// The meter of a number. Its greatest gap is its least one: it is not applied.
+fn meter_specification(number: u64) -> Spec {
+    let size = [(1, 1), (1, 2), (2, 2)][number as usize % 3];
+    let smin = number / 3 % 2 + 1;
+    let rate = number / 6;
+    let supply = (rate > 0).then(|| ((rate - 1) / METER_RATE + 1, (rate - 1) % METER_RATE + 1));
+    Spec { size, gap: (smin, smin), supply, demand: None, duration: None }
+}
+
+/// Offers are at minutes 0 to `MINUTES` − 1, of sizes 1 to 3: the last is out of every range, and so is the first of some.
+const MINUTES: u64 = 6;
+const OFFERS: u64 = MINUTES * 3;
+
+fn offers_case(number: u64, library: &mut Library) -> Result<Counts, String> {
+    let spec = meter_specification(number / OFFERS);
+    let trial = Trial::make(&spec, Meter::of_bytes([0xA5; BYTES]), library)?;
+    let mut counts = Counts::new();
+    and_all_after(trial, number % OFFERS, 3, &mut counts, library)?;
+    Ok(counts)
+}
+
+/// One offer, and after it every list of so many more: no R minutes, from whatever minute on, hold more than B accepted records.
+fn and_all_after(mut trial: Trial, offer: u64, more: u64, counts: &mut Counts, library: &mut Library) -> Result<(), String> {
+    let offered = Report { minute: offer / 3, size: offer % 3 + 1 };
+    trial.offer(offered, 0xA5A5_A5A5, library)?.add_to(counts);
+    if let Some((b, r)) = trial.spec().supply {
+        if let Some(a) = (0..MINUTES).find(|&a| stretch(&trial.taken, a, r) > b) {
+            return Err(format!("{r} minutes from {a} on hold more than {b} records of {:?}", trial.taken));
+        }
+    }
+    if more == 0 {
+        return Ok(());
+    }
+    (0..OFFERS).try_for_each(|next| and_all_after(trial.clone(), next, more - 1, counts, library))
 }

@@ -9,6 +9,7 @@ extern "C" {
     fn mprotect(at: *mut u8, length: usize, protection: i32) -> i32;
 }
 
+const READ: i32 = 1;
 const READ_WRITE: i32 = 3;
 const PRIVATE_ANONYMOUS: i32 = 0x22;
 
@@ -34,12 +35,26 @@ impl<T: Copy + PartialEq> Fence<T> {
     pub fn lend(&mut self, items: &[T]) -> *mut T {
         let bytes = std::mem::size_of_val(items);
         assert!(bytes <= self.pages * PAGE, "a fence with too little room");
-        // SAFETY: the last `bytes` bytes before the fence are ours; T's size divides the page.
+        // SAFETY: the last `bytes` bytes before the fence are ours; T's alignment divides the page, and T's size.
         unsafe {
             let start = self.base.add(self.pages * PAGE - bytes) as *mut T;
             start.copy_from_nonoverlapping(items.as_ptr(), items.len());
             start
         }
+    }
+
+    /// The same, and while the call runs nothing there can be written: a call that does stops the run.
+    pub fn sealed<R>(&mut self, items: &[T], call: impl FnOnce(*mut T) -> R) -> R {
+        let start = self.lend(items);
+        self.protect(READ);
+        let result = call(start);
+        self.protect(READ_WRITE);
+        result
+    }
+
+    fn protect(&mut self, protection: i32) {
+        // SAFETY: the pages before the fence are ours.
+        assert_eq!(unsafe { mprotect(self.base, self.pages * PAGE, protection) }, 0);
     }
 
     /// The last `count` items before the fence.

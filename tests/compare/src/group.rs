@@ -22,21 +22,41 @@ pub const RUNS: u64 = 200_000;
 /// What a case says: the answer it met, or how the two sides differ.
 pub type Verdict = Result<u32, String>;
 
+/// How often each answer was met.
+pub type Counts = BTreeMap<u32, u64>;
+
+/// What a case meets: one answer, or those to a list of offers.
+pub trait Met {
+    fn add_to(self, counts: &mut Counts);
+}
+
+impl Met for u32 {
+    fn add_to(self, counts: &mut Counts) {
+        *counts.entry(self).or_default() += 1;
+    }
+}
+
+impl Met for Counts {
+    fn add_to(self, counts: &mut Counts) {
+        for (answer, times) in self {
+            *counts.entry(answer).or_default() += times;
+        }
+    }
+}
+
 /// Deep recursion of the search for size lists needs more than a thread's usual stack.
 const STACK: usize = 256 << 20;
 
 #[derive(Default)]
 struct Tally {
-    answers: BTreeMap<u32, u64>,
+    answers: Counts,
     /// The failing case with the lowest number.
     failure: Option<(u64, String)>,
 }
 
 impl Tally {
     fn add(&mut self, other: Tally) {
-        for (answer, times) in other.answers {
-            *self.answers.entry(answer).or_default() += times;
-        }
+        other.answers.add_to(&mut self.answers);
         let number = |failure: &Option<(u64, String)>| failure.as_ref().map_or(u64::MAX, |(number, _)| *number);
         if number(&other.failure) < number(&self.failure) {
             self.failure = other.failure;
@@ -53,12 +73,12 @@ impl Tally {
 impl Runner {
     /// Runs random cases. `cases` is how many meet every one of the answers, whatever the seed; where the environment asks for
     /// fewer runs, fewer are made and the answers are not asked for, which the group's line says.
-    pub fn random(
+    pub fn random<M: Met>(
         &mut self,
         name: &str,
         cases: u64,
         answers: &[u32],
-        case: impl Fn(&mut Random, &mut Library) -> Verdict + Sync,
+        case: impl Fn(&mut Random, &mut Library) -> Result<M, String> + Sync,
     ) {
         let seed = self.seed;
         let made = (cases * self.runs / RUNS).max(1);
@@ -67,18 +87,24 @@ impl Runner {
     }
 
     /// Runs cases that are numbered from 0, each of them once.
-    pub fn every(&mut self, name: &str, cases: u64, answers: &[u32], case: impl Fn(u64, &mut Library) -> Verdict + Sync) {
+    pub fn every<M: Met>(
+        &mut self,
+        name: &str,
+        cases: u64,
+        answers: &[u32],
+        case: impl Fn(u64, &mut Library) -> Result<M, String> + Sync,
+    ) {
         self.group(name, cases, answers, cases, case);
     }
 
     /// The group fails if a case does, or if, of `enough` cases, none met one of the answers: then the inputs are too tame.
-    fn group(
+    fn group<M: Met>(
         &mut self,
         name: &str,
         cases: u64,
         answers: &[u32],
         enough: u64,
-        case: impl Fn(u64, &mut Library) -> Verdict + Sync,
+        case: impl Fn(u64, &mut Library) -> Result<M, String> + Sync,
     ) {
         assert!(!answers.is_empty(), "{name}: a group says which answers it must meet");
         let started = Instant::now();
@@ -109,7 +135,7 @@ impl Runner {
 }
 
 /// Hands the cases out to one thread a processor.
-fn run(cases: u64, case: impl Fn(u64, &mut Library) -> Verdict + Sync) -> Tally {
+fn run<M: Met>(cases: u64, case: impl Fn(u64, &mut Library) -> Result<M, String> + Sync) -> Tally {
     let next = AtomicU64::new(0);
     let tally = Mutex::new(Tally::default());
     let work = || {
@@ -121,7 +147,7 @@ fn run(cases: u64, case: impl Fn(u64, &mut Library) -> Verdict + Sync) -> Tally 
                 break;
             }
             match catch_unwind(AssertUnwindSafe(|| case(number, &mut library))).unwrap_or_else(panicked) {
-                Ok(answer) => *own.answers.entry(answer).or_default() += 1,
+                Ok(met) => met.add_to(&mut own.answers),
                 Err(text) => {
                     own.failure = Some((number, text));
                     next.store(cases, Ordering::Relaxed);
@@ -140,7 +166,7 @@ fn run(cases: u64, case: impl Fn(u64, &mut Library) -> Verdict + Sync) -> Tally 
     tally.into_inner().unwrap()
 }
 
-fn panicked(cause: Box<dyn std::any::Any + Send>) -> Verdict {
+fn panicked<M>(cause: Box<dyn std::any::Any + Send>) -> Result<M, String> {
     let text = cause.downcast_ref::<String>().map(String::as_str);
     Err(format!("panic: {}", text.or(cause.downcast_ref::<&str>().copied()).unwrap_or("?")))
 }

@@ -1,7 +1,8 @@
-//! The ten calls of include/maxeltu.h, each wrapped so that its answer can be compared whole: every place that it was lent is
+//! The twelve calls of include/maxeltu.h, each wrapped so that its answer can be compared whole: every place that it was lent is
 //! handed back with what it holds afterwards, and what it should only have read is looked at again.
 
 use crate::fence::Fence;
+use crate::ring::Meter;
 use reference::Pair;
 
 #[rustfmt::skip]
@@ -16,6 +17,8 @@ extern "C" {
     fn maxeltu_check_cycle(spec: *const u8, spec_len: usize, pairs: *const Pair, count: usize) -> u32;
     fn maxeltu_read_cycle(file: *const u8, file_len: usize, pairs: *mut Pair, places: usize, count: *mut u32) -> u32;
     fn maxeltu_write_cycle(pairs: *const Pair, count: usize, file: *mut u8, room: usize, written: *mut u32) -> u32;
+    fn maxeltu_make_meter(spec: *const u8, spec_len: usize, meter: *mut Meter) -> u32;
+    fn maxeltu_offer(meter: *mut Meter, minute: u32, size: u32, left: *mut u32) -> u32;
 }
 
 /// What a call answered, and what its places for numbers hold afterwards.
@@ -30,6 +33,8 @@ pub struct Library {
     spec: Fence<u8>,
     file: Fence<u8>,
     pairs: Fence<Pair>,
+    meter: Fence<Meter>,
+    left: Fence<u32>,
 }
 
 /// Room for the longest slices that the tests lend, in pages.
@@ -39,7 +44,13 @@ const PAGES: usize = 20;
 // null, and no two overlap.
 impl Library {
     pub fn new() -> Library {
-        Library { spec: Fence::new(PAGES), file: Fence::new(PAGES), pairs: Fence::new(PAGES) }
+        Library {
+            spec: Fence::new(PAGES),
+            file: Fence::new(PAGES),
+            pairs: Fence::new(PAGES),
+            meter: Fence::new(2),
+            left: Fence::new(1),
+        }
     }
 
     /// Lends the specification, and sees that the call left it as it was.
@@ -124,5 +135,37 @@ impl Library {
         let answer = unsafe { maxeltu_write_cycle(list, pairs.len(), lent, before.len(), &mut written) };
         assert_eq!(self.pairs.held(pairs.len()), pairs, "a cycle that was only to be read");
         (Outcome { answer, places: [written] }, self.file.held(before.len()).to_vec())
+    }
+
+    /// The meter comes back as the call leaves it.
+    pub fn make_meter(&mut self, spec: &[u8], meter: &mut Meter) -> u32 {
+        let lent = self.meter.lend(std::slice::from_ref(meter));
+        let answer = self.with_spec(spec, |at, len| unsafe { maxeltu_make_meter(at, len, lent) });
+        *meter = self.meter.held(1)[0];
+        answer
+    }
+
+    /// A refusal, which writes nothing: the meter lies where nothing can be written.
+    pub fn make_no_meter(&mut self, spec: &[u8], former: &Meter) -> u32 {
+        let lent = self.spec.lend(spec);
+        self.meter.sealed(std::slice::from_ref(former), |meter| unsafe { maxeltu_make_meter(lent, spec.len(), meter) })
+    }
+
+    /// An offer that is refused, to a meter that lies where nothing can be written. Where the budget left is not told, its place
+    /// lies there too.
+    pub fn refused_offer(&mut self, meter: &Meter, minute: u32, size: u32) -> u32 {
+        let Library { meter: lent, left, .. } = self;
+        lent.sealed(std::slice::from_ref(meter), |lent| match meter.window {
+            0 => left.sealed(&[0], |left| unsafe { maxeltu_offer(lent, minute, size, left) }),
+            _ => unsafe { maxeltu_offer(lent, minute, size, left.lend(&[0])) },
+        })
+    }
+
+    /// The meter comes back as the call leaves it, beside the budget left.
+    pub fn offer(&mut self, meter: &mut Meter, minute: u32, size: u32, left: u32) -> Outcome<1> {
+        let lent = self.meter.lend(std::slice::from_ref(meter));
+        let answer = unsafe { maxeltu_offer(lent, minute, size, self.left.lend(&[left])) };
+        *meter = self.meter.held(1)[0];
+        Outcome { answer, places: [self.left.held(1)[0]] }
     }
 }

@@ -16,8 +16,11 @@ mod generate;
 mod group;
 mod library;
 mod limits;
+mod meters;
+mod offers;
 mod program;
 mod random;
+mod ring;
 mod samples;
 
 use group::{Runner, RUNS};
@@ -42,6 +45,7 @@ fn main() {
             calls::reference_itself(&mut runner);
             exhaustive::all(&mut runner);
             calls::all(&mut runner);
+            meters::all(&mut runner);
         }
         ["evenplan", program] => program::all(&mut runner, program.as_ref()),
         _ => panic!("usage: compare [evenplan PROGRAM]"),

@@ -1,7 +1,7 @@
 //! The samples of document 01, starred or not, through the library and through the reference, and the files in samples/. The sizes of
-//! even plans are those of document 02, Req 02.
+//! even plans are those of document 02, Req 02, and the meter is that of Req 03.
 
-use crate::checks::{self, both_rates, Checks};
+use crate::checks::{self, both_rates, Checks, Offer};
 use crate::group::Runner;
 use reference::feasibility::Failure::Refused;
 use reference::{cycle, even, schedule, spec, Kind, Pair, Plan, Spec};
@@ -20,6 +20,35 @@ pub fn all(runner: &mut Runner) {
         samples_c_d_e(checks);
         sample_f(checks);
     });
+    checks::group(runner, "samples of meters", meters);
+}
+
+fn meters(checks: &mut Checks) {
+    let sound = ["a", "a28", "b", "b14", "b15", "c", "d", "e", "f", "f-no-demand"].map(|name| (name, 0));
+    let refused = [("bad-map", 1), ("empty", 1), ("bad-length", 2), ("bad-limits", 3), ("bad-order", 4)];
+    for (name, wanted) in sound.into_iter().chain(refused) {
+        let name = format!("{name}.spec");
+        checks.made(&name, &std::fs::read(checks::sample(&name)).expect(&name), wanted);
+    }
+    let b15 = both_rates((2, 3), (5, 5), (15, 26), (10, 20));
+    checks.meter("B with 15", &b15, [2, 3, 5, 15, 26]);
+    checks.meter("B with no supply rate", &Spec { supply: None, ..b15.clone() }, [2, 3, 5, 20_000, 0]);
+    let offers = offers_of("b15.offers");
+    checks.holds("samples/b15.offers has 11 offers", offers.len() == 11);
+    checks.offers("samples/b15.offers", &b15, &offers);
+}
+
+/// The offers of a file in samples/: on each line minute, size, number and budget left.
+fn offers_of(name: &str) -> Vec<Offer> {
+    let text = std::fs::read_to_string(checks::sample(name)).expect(name);
+    let lines = text.lines().filter(|line| !line.is_empty() && !line.starts_with('#'));
+    lines.map(|line| offer_of(line).unwrap_or_else(|| panic!("samples/{name}: {line}"))).collect()
+}
+
+fn offer_of(line: &str) -> Option<Offer> {
+    let numbers: Vec<u64> = line.split(' ').map(|number| number.parse().ok()).collect::<Option<_>>()?;
+    let &[minute, size, number, left] = &numbers[..] else { return None };
+    Some((minute, size, number as u32, Some(left)))
 }
 
 fn sample_a(checks: &mut Checks) {

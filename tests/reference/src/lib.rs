@@ -1,4 +1,4 @@
-//! An independent reference for Maxeltu, written from document 01 alone and by brute force: every stretch is a sum, every
+//! An independent reference for Maxeltu, written from documents 01 and 02 alone and by brute force: every stretch is a sum, every
 //! starting minute of a round is tried, every k, every gap. It shares no code and no shortcut with the library.
 //!
 //! Where a number is too large for the literal way there is a second, still plain way (`Reports` for `Minutes`, whole periods
@@ -8,11 +8,12 @@ pub mod cycle;
 pub mod even;
 pub mod feasibility;
 pub mod file;
+pub mod meter;
 pub mod plan;
 pub mod schedule;
 pub mod spec;
 
-/// A refusal number of document 01.
+/// A refusal number of documents 01 and 02.
 pub type Refusal = u32;
 
 pub use cycle::Pair;
