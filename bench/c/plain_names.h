@@ -1,6 +1,6 @@
 /*
- * Included before plain.c where it is linked beside the library: the same ten
- * functions under names of their own.
+ * Included before plain.c where it is linked beside the library: the same
+ * twelve functions under names of their own.
  */
 #define maxeltu_verdict plain_verdict
 #define maxeltu_consistency plain_consistency
@@ -12,3 +12,5 @@
 #define maxeltu_check_cycle plain_check_cycle
 #define maxeltu_read_cycle plain_read_cycle
 #define maxeltu_write_cycle plain_write_cycle
+#define maxeltu_make_meter plain_make_meter
+#define maxeltu_offer plain_offer

@@ -9,10 +9,23 @@ type Report = unsafe extern "C" fn(u32, u32, u32, u32, u32, *mut u64, *mut u32) 
 type CheckCycle = unsafe extern "C" fn(*const u8, usize, *const Pair, usize) -> u32;
 type ReadCycle = unsafe extern "C" fn(*const u8, usize, *mut Pair, usize, *mut u32) -> u32;
 type WriteCycle = unsafe extern "C" fn(*const Pair, usize, *mut u8, usize, *mut u32) -> u32;
+type MakeMeter = unsafe extern "C" fn(*const u8, usize, *mut Meter) -> u32;
+type Offer = unsafe extern "C" fn(*mut Meter, u32, u32, *mut u32) -> u32;
+
+/// As many bytes as struct maxeltu_meter has, and as aligned. What they say is the library's matter.
+#[repr(C)]
+pub struct Meter([u32; 1541]);
+
+impl Meter {
+    pub const NOT_MADE: Meter = Meter([0; 1541]);
+}
 
 #[rustfmt::skip]
 macro_rules! declare {
-    ($verdict:ident $test:ident $even_plan:ident $report:ident $check_cycle:ident $read_cycle:ident $write_cycle:ident) => {
+    (
+        $verdict:ident $test:ident $even_plan:ident $report:ident
+        $check_cycle:ident $read_cycle:ident $write_cycle:ident $make_meter:ident $offer:ident
+    ) => {
         extern "C" {
             fn $verdict(spec: *const u8, spec_len: usize, cycle: *const u8, cycle_len: usize) -> u32;
             fn $test(spec: *const u8, spec_len: usize, condition: *mut u32, k: *mut u32, period: *mut u32, total: *mut u32, supply: *mut u32) -> u32;
@@ -21,12 +34,20 @@ macro_rules! declare {
             fn $check_cycle(spec: *const u8, spec_len: usize, pairs: *const Pair, count: usize) -> u32;
             fn $read_cycle(file: *const u8, file_len: usize, pairs: *mut Pair, places: usize, count: *mut u32) -> u32;
             fn $write_cycle(pairs: *const Pair, count: usize, file: *mut u8, room: usize, written: *mut u32) -> u32;
+            fn $make_meter(spec: *const u8, spec_len: usize, meter: *mut Meter) -> u32;
+            fn $offer(meter: *mut Meter, minute: u32, size: u32, left: *mut u32) -> u32;
         }
     };
 }
 
-declare!(maxeltu_verdict maxeltu_test maxeltu_even_plan maxeltu_report maxeltu_check_cycle maxeltu_read_cycle maxeltu_write_cycle);
-declare!(plain_verdict plain_test plain_even_plan plain_report plain_check_cycle plain_read_cycle plain_write_cycle);
+declare!(
+    maxeltu_verdict maxeltu_test maxeltu_even_plan maxeltu_report
+    maxeltu_check_cycle maxeltu_read_cycle maxeltu_write_cycle maxeltu_make_meter maxeltu_offer
+);
+declare!(
+    plain_verdict plain_test plain_even_plan plain_report
+    plain_check_cycle plain_read_cycle plain_write_cycle plain_make_meter plain_offer
+);
 
 pub struct Calls {
     verdict: TwoFiles,
@@ -36,6 +57,8 @@ pub struct Calls {
     check_cycle: CheckCycle,
     read_cycle: ReadCycle,
     write_cycle: WriteCycle,
+    make_meter: MakeMeter,
+    offer: Offer,
 }
 
 pub const LIBRARY: Calls = Calls {
@@ -46,6 +69,8 @@ pub const LIBRARY: Calls = Calls {
     check_cycle: maxeltu_check_cycle,
     read_cycle: maxeltu_read_cycle,
     write_cycle: maxeltu_write_cycle,
+    make_meter: maxeltu_make_meter,
+    offer: maxeltu_offer,
 };
 
 pub const PLAIN_C: Calls = Calls {
@@ -56,6 +81,8 @@ pub const PLAIN_C: Calls = Calls {
     check_cycle: plain_check_cycle,
     read_cycle: plain_read_cycle,
     write_cycle: plain_write_cycle,
+    make_meter: plain_make_meter,
+    offer: plain_offer,
 };
 
 // SAFETY, for every call: each pointer leads to as many items as the length beside it says, or to one number; none overlap.
@@ -91,5 +118,14 @@ impl Calls {
     pub fn write_cycle(&self, pairs: &[Pair], file: &mut [u8]) -> u32 {
         let mut written = 0;
         unsafe { (self.write_cycle)(pairs.as_ptr(), pairs.len(), file.as_mut_ptr(), file.len(), &mut written) }
+    }
+
+    pub fn make_meter(&self, spec: &[u8], meter: &mut Meter) -> u32 {
+        unsafe { (self.make_meter)(spec.as_ptr(), spec.len(), meter) }
+    }
+
+    pub fn offer(&self, meter: &mut Meter, minute: u32, size: u32) -> u32 {
+        let mut left = 0;
+        unsafe { (self.offer)(meter, minute, size, &mut left) }
     }
 }

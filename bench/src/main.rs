@@ -1,6 +1,7 @@
 //! The same inputs through the library, the plain C version and the literal reference: times and ratios. Never a test.
 
 mod calls;
+mod meters;
 
 use calls::{Calls, LIBRARY, PLAIN_C};
 use reference::schedule::LAID_OUT;
@@ -52,11 +53,16 @@ fn shown(nanoseconds: f64) -> String {
     }
 }
 
-/// One line: the call on both sides, and on the reference. The answers must agree, or the times say nothing.
+/// One line: the call on both sides, and on the reference.
 fn line(name: &str, call: impl Fn(&Calls) -> u32, literal: impl Fn() -> u32) {
-    let answer = literal();
-    assert_eq!([call(&LIBRARY), call(&PLAIN_C)], [answer, answer], "{name}");
-    let [library, plain, reference] = times([&|| call(&LIBRARY), &|| call(&PLAIN_C), &literal]);
+    line_of(name, [&|| call(&LIBRARY), &|| call(&PLAIN_C), &literal]);
+}
+
+/// One line: the library, the plain C version and the reference. Their answers must agree, or the times say nothing.
+fn line_of(name: &str, calls: [&dyn Fn() -> u32; 3]) {
+    let answers = calls.map(|call| call());
+    assert_eq!(answers, [answers[2]; 3], "{name}");
+    let [library, plain, reference] = times(calls);
     println!(
         "{name:<60} {:>10} {:>10} {:>10} {:>10.2} {:>12.1}",
         shown(library),
@@ -174,4 +180,5 @@ fn main() {
     cycles();
     plans();
     reports();
+    meters::all();
 }
