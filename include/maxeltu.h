@@ -321,7 +321,7 @@ uint32_t maxeltu_make_meter(const uint8_t *spec, size_t spec_len,
  * neither 15 nor 22.
  * A clock that was set back gets 13. Only accepted minutes count for that: before
  * anything is accepted, a minute may come before one that was offered earlier.
- * A gap above smax is no refusal: a late van must still be heard.
+ * smax is not applied: a gap may be longer.
  * Writes *meter only where the answer is 0. Writes *left, whatever the answer:
  * the budget left, B less the accepted records of the R minutes that end with
  * the later of the offered and the last accepted minute (with the offered one
