@@ -16,7 +16,7 @@ ghost use Rattle.schedule.specs.Schedules.{sum};
 ghost use Rattle.meter.specs.Plain.{firstOf};
 ghost use Rattle.meter.specs.Ring.{holdsNothing, windowOf, budgetOf, fresh, made, placeOf, ringReport, agedFrom, laterOf, earlyOf, leftOf, stepped, toldOr};
 
-// Places of the ring.
+// Places of the ring: the length of both arrays.
 pub const PLACES: u16 = 1024;
 
 // One meter. The first five fields are the specification's: `budget` is B, `window` is R. With no supply rate the window is 0 minutes,
@@ -156,7 +156,7 @@ pub fn make_from(bytes: &[u8]) -> Made
 fn place(first: u16, i: u16) -> u16
     ensures { λ r. ⌜ (r ≡ placeOf first i) × (r < 1024) ⌝ }
 {
-    ((first as u32 + i as u32) % 1024) as u16
+    ((first as u32 + i as u32) % PLACES as u32) as u16
 }
 
 // Whether a report is w minutes old or older at minute t. The sum may pass 32 bits.
