@@ -15,7 +15,7 @@ use Rattle.spec.specs.Rates.{bothRates}
 use Rattle.spec.specs.declared.SpecRead.the-variants.{Accepted, Refused as NotRead}
 use Rattle.spec.specs.Limits.{IsAccepted}
 use Rattle.spec.specs.File.{readSpec}
-use Rattle.schedule.specs.Schedules.{Schedule, sum, minute, stretch, share}
+use Rattle.schedule.specs.Schedules.{Schedule, sum, minute, stretch, inStretch, share}
 use Rattle.schedule.specs.Rules.{Obeys}
 use Rattle.plan.specs.declared.Kind.the-variants.{Even}
 use Rattle.plan.specs.declared.Plan.{Plan}
@@ -34,7 +34,7 @@ use Rattle.cycle.specs.Cycles.{cycleRun}
 use Rattle.cycle.specs.Check.{checkNumber}
 use Rattle.cyclefile.specs.File.{pairs, refused, cycleBytes, readCycle, writeNumber, Reads, bytesAfter, AreBytes, Words}
 use Rattle.meter.specs.declared.Meter.{Meter}
-use Rattle.meter.specs.Plain.{Report, recordsAt, plainAnswers, acceptedOnto, stretchFrom}
+use Rattle.meter.specs.Plain.{Report, recordsAt, endingWith, plainAnswers, acceptedOnto}
 use Rattle.meter.specs.Ring.{fresh, stepped, meterAnswers, meterAfter}
 use Rattle.maxeltu.specs.Verdict.{verdictOf}
 
@@ -92,10 +92,12 @@ pub record Demands : Type 0 where
   -- A budget meter in the box (document 02, Req 03). For every list of offers to a fresh meter of an accepted specification, each answer, its
   -- number and its budget left, is the plain machine's.
   pub meter-answers : (s : Spec) (offers : List Report) → IsAccepted s → meterAnswers (fresh s) offers ≡ plainAnswers s [] offers
-  -- no R minutes, from whatever start, hold more than B records of the offers that the meter has accepted
+  -- no R minutes, from whatever start, hold more than B records of the offers that the meter has accepted, nor do the R minutes that end with
+  -- whatever minute: so the budget left, B less what these hold, is never cut off at 0
   pub meter-budget : (s : Spec) (b r : ℕ) (offers : List Report) → IsAccepted s → s .supply ≡ Present b r
-      → (a : ℕ) → recordsAt (stretchFrom a r) (acceptedOnto [] offers (meterAnswers (fresh s) offers)) ≤ b
-  -- it holds 1,024 reports at most, and with no supply rate only the last
+      → ((a : ℕ) → recordsAt (inStretch a r) (acceptedOnto [] offers (meterAnswers (fresh s) offers)) ≤ b)
+      × ((t : ℕ) → recordsAt (endingWith r t) (acceptedOnto [] offers (meterAnswers (fresh s) offers)) ≤ b)
+  -- it holds 1,024 reports at most, and with no supply rate one
   pub meter-holds : (s : Spec) (offers : List Report) → IsAccepted s
       → (meterAfter (fresh s) offers .count ≤ 1_024) × (s .supply ≡ Absent → meterAfter (fresh s) offers .count ≤ 1)
   -- 3. For every accepted specification:

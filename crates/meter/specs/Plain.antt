@@ -68,8 +68,8 @@ unfoldable pub later : List Report → ℕ → ℕ
 later [] t = t
 later (x ∷ l) t = max t (x .minute)
 
--- "B less the accepted records of the R minutes that end with" that minute, which are never more than B: `meter-budget` of the
--- demands' page. With no supply rate there is "no budget left to tell".
+-- "B less the accepted records of the R minutes that end with" that minute, which are never more than B (`meter-budget` of the demands'
+-- page). With no supply rate there is "no budget left to tell".
 unfoldable pub budgetLeft : Rate → List Report → ℕ → Left
 budgetLeft Absent l t = Untold
 budgetLeft (Present b r) l t = Records (b - recordsAt (endingWith r (later l t)) l)
@@ -88,7 +88,3 @@ unfoldable pub acceptedOnto : List Report → List Report → List Answer → Li
 acceptedOnto l [] answers = l
 acceptedOnto l (x ∷ xs) [] = l
 acceptedOnto l (x ∷ xs) (a ∷ answers) = acceptedOnto (cond (eqb (a .number) 0) (x ∷ l) l) xs answers
-
--- the stretch of w minutes from a: minutes a to a + w - 1
-abbrev pub stretchFrom : ℕ → ℕ → ℕ → Bool
-stretchFrom a w u = leb a u && ltb u (a + w)

@@ -1,6 +1,7 @@
--- The meter's step, for every content of the struct. In the ring of 1,024 places, report i that is held stands i places after
--- the first. An offer looks for those of the oldest that are out of the window; an acceptance lets them go and puts the report
--- behind the last. A refusal changes nothing.
+-- Document 02, Req 03: "The meter holds 1,024 reports; those R minutes old or older make place for others. With no supply rate it holds
+-- only the last". The meter's step, for every content of the struct. In the ring of 1,024 places, report i that is held stands i places
+-- after the first. An offer looks for those of the oldest that are out of the window; an acceptance lets them go and puts the report behind
+-- the last. A refusal changes nothing.
 use Prim.Native.Nat.{ℕ, zero, suc, _+_, _-_, _%_, max}
 use mathlib.Core.Bool.{Bool, true, false, cond, not}
 use mathlib.Core.List.{List, [], _∷_}

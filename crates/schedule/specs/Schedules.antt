@@ -1,7 +1,7 @@
 -- Document 01, "The specification", second paragraph: "A schedule is endless. Report 0 is at minute 0. A stretch of n minutes
 -- from a (a at least 0) is minutes a to a + n − 1. It holds, summed, the sizes of the reports at those minutes."
 use Prim.Native.Nat.{ℕ, zero, suc, _+_}
-use mathlib.Core.Bool.{true, false, cond, _&&_}
+use mathlib.Core.Bool.{Bool, true, false, cond, _&&_}
 use lib.Dec.{leb, ltb}
 
 -- report i has `size i` records, and report i + 1 comes `gap i` minutes after it
@@ -32,9 +32,13 @@ heldFrom s a e (suc n) i t =
 unfoldable pub stretch : Schedule → ℕ → ℕ → ℕ
 stretch s a w = heldFrom s a (a + w) (a + w) 0 0
 
+-- whether minute t is one of the stretch of w minutes from a
+abbrev pub inStretch : ℕ → ℕ → ℕ → Bool
+inStretch a w t = leb a t && ltb t (a + w)
+
 -- what report i adds to the stretch of w minutes from a: its size where its minute is one of them
 unfoldable pub share : Schedule → ℕ → ℕ → ℕ → ℕ
-share s a w i = cond (leb a (minute s i) && ltb (minute s i) (a + w)) (s .size i) 0
+share s a w i = cond (inStretch a w (minute s i)) (s .size i) 0
 
 -- how many reports lie before minute m, counted among the first m: where no gap is 0, report i is at minute i or later
 unfoldable pub reportsBefore : Schedule → ℕ → ℕ
