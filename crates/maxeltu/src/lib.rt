@@ -1,6 +1,6 @@
 // What others call: the loader's call and the C interface of include/maxeltu.h, thin over the crates below. Every call answers 0 or the
-// number of the refusal; a lent place is written only where the answer is 0, and the condition of an inconsistent specification only
-// where it is 7.
+// number of the refusal; a lent place is written only where the answer is 0, the condition of an inconsistent specification only where it
+// is 7, and the budget left after every offer to a meter that has one to tell.
 use cyclefile::reading;
 use cyclefile::reading::CycleFile;
 use families::Family;

@@ -1,5 +1,5 @@
--- What a lent meter is left at: one that was made is stored where its number is 0, and a read specification has a number only where it is refused. So
--- the meter is a fresh one exactly where the specification was accepted, and else what it was.
+-- What a lent meter is left at. One that was made is stored where its number is 0, which no refused file has: so it is a fresh one where the
+-- specification was accepted, and else what it was.
 use Prim.Native.Nat.{ℕ}
 use native.Mathlib.Omega.{arith}
 use mathlib.Core.Path.{_≡_, refl, ap}
@@ -10,7 +10,7 @@ use lib.Dec.{T, eqb, eqb→eq}
 use Rattle.spec.specs.declared.SpecRead.{SpecRead}
 use Rattle.spec.specs.declared.SpecRead.the-variants.{Accepted, Refused}
 use Rattle.spec.specs.File.{ifRead, readSpec}
-use Rattle.spec.proofs.AnyBytes.{SpecIsRead, spec-is-read}
+use Rattle.spec.proofs.AnyBytes.{spec-is-read}
 use Rattle.meter.specs.declared.Meter.{Meter}
 use Rattle.meter.specs.Ring.{fresh, made}
 
@@ -19,21 +19,17 @@ unfolding made
 made-number read = refl
 
 module _ (former : Meter) where
-  stored : (read : SpecRead) → SpecIsRead read → T (eqb (made read .number) 0) → made read .meter ≡ ifRead read fresh (λ n. former)
+  pub made-stored : (bytes : List ℕ) → T (eqb (made (readSpec bytes) .number) 0) → made (readSpec bytes) .meter ≡ ifRead (readSpec bytes) fresh (λ n. former)
   unfolding made
-  stored read is z =
+  made-stored bytes z =
       ⊎-elim
       (λ a. rw (a .1 .0))
-      (λ r. let e : made read .number ≡ r .0 = ap (λ (y : SpecRead). made y .number) (r .1 .0) in absurd (omega (arith, r .1 .1 .0, eqb→eq (made read .number) 0 z)))
-      is
+      (λ r.
+      let e : made (readSpec bytes) .number ≡ r .0 = ap (λ (y : SpecRead). made y .number) (r .1 .0) in
+      absurd (omega (arith, r .1 .1 .0, eqb→eq (made (readSpec bytes) .number) 0 z)))
+      (spec-is-read bytes)
 
-  left-alone : (read : SpecRead) → T (not (eqb (made read .number) 0)) → former ≡ ifRead read fresh (λ n. former)
+  pub refused-kept : (read : SpecRead) → T (not (eqb (made read .number) 0)) → former ≡ ifRead read fresh (λ n. former)
   unfolding made
-  left-alone (Accepted spec) z = absurd z
-  left-alone (Refused n) z = refl
-
-  pub made-stored : (bytes : List ℕ) → T (eqb (made (readSpec bytes) .number) 0) → made (readSpec bytes) .meter ≡ ifRead (readSpec bytes) fresh (λ n. former)
-  made-stored bytes z = stored (readSpec bytes) (spec-is-read bytes) z
-
-  pub refused-kept : (bytes : List ℕ) → T (not (eqb (made (readSpec bytes) .number) 0)) → former ≡ ifRead (readSpec bytes) fresh (λ n. former)
-  refused-kept bytes z = left-alone (readSpec bytes) z
+  refused-kept (Accepted spec) z = absurd z
+  refused-kept (Refused n) z = refl

@@ -47,7 +47,7 @@ module _ (f : ℕ → Report) (w t : ℕ) where
     pub walk-ends : n ≤ k → k ≡ all
     walk-ends h = let z : n - k ≡ 0 = omega arith in omega (arith, rw (z, aged-none k) at walk)
 
-module _ (m : Meter) (t d : ℕ) where
+module _ (m : Meter) (t : ℕ) where
   pub aged-is : (a u : ℕ) → u ≡ laterOf (m .count) (m .last) t → a ≡ agedFrom (ringReport (m .minutes) (m .sizes) (m .first)) (m .window) u (m .count) 0 → a ≡ aged m t
   unfolding aged heldReport
   aged-is a u e f = f ∙ rw e
@@ -56,6 +56,7 @@ module _ (m : Meter) (t d : ℕ) where
   unfolding used heldReport
   used-is a out u e f g = g ∙ rw (f, e)
 
+module _ (m : Meter) (t d : ℕ) where
   pub number-is : (a u n : ℕ) → a ≡ aged m t → u ≡ used m t
       → n ≡ firstOf (earlyOf (m .count) (m .last) (m .smin) t) (not (between (m .dmin) (m .dmax) d)) (ltb (m .budget) (u + d)) (leb 1024 (m .count - a))
       → n ≡ ringNumber m t d

@@ -159,11 +159,11 @@ fn place(first: u16, i: u16) -> u16
     ((first as u32 + i as u32) % PLACES as u32) as u16
 }
 
-// Whether a report is w minutes old or older at minute t. The sum may pass 32 bits.
-fn is_aged(minute: u32, w: u16, t: u32) -> bool
-    ensures { λ r. ⌜ r ≡ leb (minute + w) t ⌝ }
+// Whether a report is out of the window that ends with minute t: so many minutes old, or older. The sum may pass 32 bits.
+fn is_aged(minute: u32, window: u16, t: u32) -> bool
+    ensures { λ r. ⌜ r ≡ leb (minute + window) t ⌝ }
 {
-    minute as u64 + w as u64 <= t as u64
+    minute as u64 + window as u64 <= t as u64
 }
 
 fn wide(x: u16) -> u32
@@ -172,22 +172,22 @@ fn wide(x: u16) -> u32
     x as u32
 }
 
-// The oldest of the reports that are held, up to the first that is not w minutes old or older at minute t.
+// The oldest of the reports that are held, up to the first that is in the window that ends with minute t.
 fn aged_of<'a>(
     minutes: &'a [u32; 1024],
     sizes: &'a [u16; 1024],
     first: u16,
     count: u16,
-    w: u16,
+    window: u16,
     t: u32,
 ) -> Aged
-    ensures { λ r. ⌜ (r .count ≡ agedFrom (ringReport (now (minutes .entry)) (now (sizes .entry)) first) w t count 0) × (r .count ≤ count) × (r .records ≡ sum (λ i. ringReport (now (minutes .entry)) (now (sizes .entry)) first i .size) (r .count)) ⌝ }
+    ensures { λ r. ⌜ (r .count ≡ agedFrom (ringReport (now (minutes .entry)) (now (sizes .entry)) first) window t count 0) × (r .count ≤ count) × (r .records ≡ sum (λ i. ringReport (now (minutes .entry)) (now (sizes .entry)) first i .size) (r .count)) ⌝ }
 {
     let mut k: u16 = 0;
     let mut records: u32 = 0;
     while k < count {
         let at = place(first, k) as usize;
-        if !is_aged(minutes[at], w, t) {
+        if !is_aged(minutes[at], window, t) {
             return Aged { count: k, records };
         }
         records += wide(sizes[at]);

@@ -185,7 +185,7 @@ module _ {M : Type 1} (𝓤 : URA M) (H : Heap 𝓤) (A : Atoms 𝓤) (W : Given
         (ap (λ (r : Made). r .meter) e ∙ made-stored h bs (subst (λ (r : Made). T (eqb (r .number) 0)) e taken)))
         (λ refused.
         skips ! $ exec ! C Λ (En C Λ r (LL.owed S.the-type S′.the-laws r (v ∷ []) is .0 .1) e l₀ l₁ l₂ l₃ l₄) piece.t-4 (atRet _ Post) $
-        closing C Λ r (LL.owed S.the-type S′.the-laws r (v ∷ []) is .0 .1) e l₀ l₁ l₂ l₃ l₄ h _ g (refused-kept h bs (subst (λ (r : Made). T (not (eqb (r .number) 0))) e refused))))))))))))))
+        closing C Λ r (LL.owed S.the-type S′.the-laws r (v ∷ []) is .0 .1) e l₀ l₁ l₂ l₃ l₄ h _ g (refused-kept h (readSpec bs) (subst (λ (r : Made). T (not (eqb (r .number) 0))) e refused))))))))))))))
 
 module _ {M : Type 1} (𝓤 : URA M) (H : Heap 𝓤) (A : Atoms 𝓤) (W : Given 𝓤 H A) (at-mem : Memory → SProp 𝓤) (run : Routine → Fun 𝓤) (𝓣 : Tables 𝓤 H) (known : Triple 𝓤 (𝓣 .C #meter·make-from) (From 𝓤 H A at-mem run)) where
   walks : Walks 𝓤 H A self.ended stayed (WpFn 𝓤 H (𝓣 .C) (𝓣 .Λ) code.function) (self.clauses 𝓤 H A at-mem run)

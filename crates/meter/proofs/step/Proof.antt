@@ -67,10 +67,10 @@ module _ (c : tie.After-first-of) where
   held = c .before .before .before .before .before .less .result
 
   out-is : out ≡ aged m t
-  out-is = aged-is m t d out _ (walked .before .before .before .before .later-of .ensures) (walked .aged-of .ensures .0)
+  out-is = aged-is m t out _ (walked .before .before .before .before .later-of .ensures) (walked .aged-of .ensures .0)
 
   held-is : held ≡ used m t
-  held-is = used-is m t d out (walked .aged-of .result .records) held out-is (walked .aged-of .ensures .2) (c .before .before .before .before .before .less .ensures)
+  held-is = used-is m t out (walked .aged-of .result .records) held out-is (walked .aged-of .ensures .2) (c .before .before .before .before .before .less .ensures)
 
   judged : c .first-of .result ≡ firstOf (earlyOf (m .count) (m .last) (m .smin) t) (not (between (m .dmin) (m .dmax) d)) (ltb (m .budget) (held + d)) (leb 1024 (m .count - out))
   judged =
