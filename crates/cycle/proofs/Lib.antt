@@ -4,4 +4,4 @@ pub mod Starts
 pub mod Steps
 pub mod CyclesPassed
 pub mod Rounds
-pub mod FlatForms
+pub mod FileNumbers

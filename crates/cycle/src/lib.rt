@@ -1,10 +1,10 @@
 // Checking a cycle: 0, or the number with which document 01 refuses it (3, 4, 12 to 16). The check lays its stretches over the
 // endless repetition with two ends that only go forward, and counts whole rounds by a product, so its work is linear in the
-// number of pairs however short a round is (`stretches`). What pairs are is the crate `pairs`', their file another's; the C call over
-// a lent list of pairs, which unpacks it and calls `check_unpacked_file`, is exported by `maxeltu`.
+// number of pairs however short a round is (`stretches`). No pair is written anywhere: the stretches lie on the one round that is lent.
+// What pairs are is the crate `pairs`', their file another's; the C call over a lent list of pairs, which unpacks it and calls
+// `check_file`, is exported by `maxeltu`.
 mod stretches;
 
-use pairs::Flat;
 use spec::Rate;
 use spec::Spec;
 use spec::SpecRead;
@@ -13,12 +13,10 @@ use stretches::Rule;
 ghost use mathlib.Core.Path.{_≡_};
 ghost use mathlib.Core.Bool.{true};
 ghost use Prim.Native.Nat.{_/_, _<_, _≤_};
-ghost use mathlib.Core.List.{List};
 ghost use lib.ListN.{length};
 ghost use Rattle.spec.specs.Limits.{rateLimits};
 ghost use Rattle.spec.specs.File.{readSpec};
-ghost use Rattle.pairs.specs.declared.Pair.{Pair};
-ghost use Rattle.pairs.specs.Pairs.{pairsOf, Lays};
+ghost use Rattle.pairs.specs.Pairs.{pairsOf};
 ghost use Rattle.cycle.specs.Check.{supplyKept, demandMet, checkNumber, checkFileNumber};
 ghost use Rattle.cycle.specs.Windows.{fieldAllowed, fieldsAllowed, Walkable};
 
@@ -108,17 +106,13 @@ pub fn check(spec: Spec, words: &[u16]) -> u32
     0
 }
 
-// The number of a list of pairs that was unpacked, against a specification's file: only an accepted specification goes on. Of too many
-// pairs none are laid flat, and none get the same number.
-pub fn check_unpacked_file(spec_bytes: &[u8], flat: Flat) -> u32
-    ensures { λ r. ⌜ ((ps : List Pair) → Lays flat ps → r ≡ checkFileNumber (readSpec (now («spec_bytes» .entry))) ps) ⌝ }
+// The same against a specification's file: only an accepted specification goes on.
+pub fn check_file(spec_bytes: &[u8], words: &[u16]) -> u32
+    ensures { λ r. ⌜ r ≡ checkFileNumber (readSpec (now («spec_bytes» .entry))) (pairsOf (now (words .entry))) ⌝ }
 {
     let read = spec::read_spec(spec_bytes);
     let SpecRead::Accepted(accepted) = read else {
         return spec::read_number(read);
     };
-    let used = 2 * pairs::fitting(flat.count, pairs::MOST_PAIRS);
-    let words = flat.words;
-    let all = &words[..];
-    check(accepted, &all[..used])
+    check(accepted, words)
 }

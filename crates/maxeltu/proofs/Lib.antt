@@ -1,3 +1,3 @@
 pub mod GivenSpec
 pub mod VerdictCases
-pub mod FlatReadings
+pub mod ListReadings

@@ -5,13 +5,13 @@ use cyclefile::reading;
 use cyclefile::reading::CycleFile;
 use families::Family;
 use meter::Meter;
-use pairs::Flat;
 use pairs::Pair;
 use plan::Kind;
 use plan::Plan;
 use spec::SpecRead;
 use spec::refusal;
 ghost use mathlib.Core.Path.{_≡_};
+ghost use Prim.Native.Nat.{_/_, min};
 ghost use lib.ListN.{length};
 ghost use Rattle.spec.specs.File.{ifRead, readSpec};
 ghost use Rattle.cycle.specs.Check.{checkFileNumber};
@@ -20,7 +20,7 @@ ghost use Rattle.families.specs.declared.Family.the-variants.{MinimumDemand, Ma
 ghost use Rattle.meter.specs.Ring.{fresh, stepped, toldOr};
 ghost use Rattle.answers.specs.Answers.{heldAfter};
 ghost use Rattle.maxeltu.specs.Verdict.{verdictOf};
-ghost use Rattle.maxeltu.specs.InnerPromises.{FlatReads};
+ghost use Rattle.maxeltu.specs.InnerPromises.{WordsRead};
 ghost use Rattle.maxeltu.specs.Calls.{consistencyCall, scheduleCall, testCall, evenCall, reportCall};
 
 // The loader's call: 0 exactly when both files are read and the cycle is passed, or the first number met, the specification's first.
@@ -187,35 +187,36 @@ pub extern "C" fn maxeltu_report(
     refusal::NOT_PROPER
 }
 
-// The number of a lent list of pairs against a specification's file. The list is unpacked once, and the flat check called.
+// The number of a lent list of pairs against a specification's file. The list is unpacked once, into the one array that is held, and
+// the flat check called.
 #[no_mangle]
 pub extern "C" fn maxeltu_check_cycle(spec_bytes: &[u8], pairs: &[Pair]) -> u32
     ensures { λ r. ⌜ r ≡ checkFileNumber (readSpec (now («spec_bytes» .entry))) (now (pairs .entry)) ⌝ }
 {
-    cycle::check_unpacked_file(spec_bytes, pairs::unpack(pairs))
+    let mut words = [0u16; 1024];
+    let used = pairs::unpack(pairs, &mut words);
+    cycle::check_file(spec_bytes, &words[..used])
 }
 
-// A cycle file's pairs, or none where it is refused, and the call's answer.
+// How many words a cycle file's pairs take, none where it is refused, and the call's answer.
 struct FileRead {
-    flat: Flat,
+    used: usize,
     number: u32,
 }
 
-// Reads a cycle file into words of its own, and tells the count where it can be read.
-fn read_flat(file: &[u8], places: usize, count: &mut u32) -> FileRead
-    ensures { λ r. ⌜ FlatReads (readCycle places (now (file .entry))) r (now (count .entry)) (now (count .exit)) ⌝ }
+// Reads a cycle file into lent words, and tells the count where it can be read.
+fn read_words(file: &[u8], places: usize, words: &mut [u16], count: &mut u32) -> FileRead
+    ensures { λ r. ⌜ WordsRead (readCycle (min places (length (now (words .entry)) / 2)) (now (file .entry))) r (now (words .exit)) (now (count .entry)) (now (count .exit)) ⌝ }
 {
-    let mut words = [0u16; 1024];
-    match reading::read(file, places, &mut words) {
+    match reading::read(file, places, words) {
         CycleFile::Pairs(n) => {
             *count = n as u32;
-            let flat = Flat { words, count: n };
-            FileRead { flat, number: 0 }
+            FileRead {
+                used: 2 * n,
+                number: 0,
+            }
         }
-        CycleFile::Refused(number) => {
-            let flat = Flat { words, count: 0 };
-            FileRead { flat, number }
-        }
+        CycleFile::Refused(number) => FileRead { used: 0, number },
     }
 }
 
@@ -224,8 +225,10 @@ fn read_flat(file: &[u8], places: usize, count: &mut u32) -> FileRead
 pub extern "C" fn maxeltu_read_cycle(file: &[u8], places: &mut [Pair], count: &mut u32) -> u32
     ensures { λ r. ⌜ Reads (readCycle (length (now (places .entry))) (now (file .entry))) (now (places .entry)) (now (count .entry)) r (now (places .exit)) (now (count .exit)) ⌝ }
 {
-    let read = read_flat(file, places.len(), count);
-    pairs::pack(read.flat, places);
+    let mut words = [0u16; 1024];
+    let read = read_words(file, places.len(), &mut words, count);
+    let used = read.used;
+    pairs::pack(&words[..used], places);
     read.number
 }
 
@@ -234,7 +237,9 @@ pub extern "C" fn maxeltu_read_cycle(file: &[u8], places: &mut [Pair], count: &m
 pub extern "C" fn maxeltu_write_cycle(pairs: &[Pair], file: &mut [u8], written: &mut u32) -> u32
     ensures { λ r. ⌜ Writes (now (pairs .entry)) (now (file .entry)) (now (written .entry)) r (now (file .exit)) (now (written .exit)) ⌝ }
 {
-    writer::write_unpacked(pairs::unpack(pairs), file, written)
+    let mut words = [0u16; 1024];
+    let used = pairs::unpack(pairs, &mut words);
+    writer::write(&words[..used], file, written)
 }
 
 // Makes a meter for a specification's file: a lent one is written only where there is no refusal.

@@ -1,14 +1,12 @@
 -- A cycle in memory. Document 01, "Cycles": "A cycle in memory is a lent list of pairs, gap then size, 1 to 512 of them (the count is the
 -- list's length), each number 0 to 65,535".
 -- Every definition over a cycle takes its list of pairs. A flat list of numbers is a way to hold one.
-use Prim.Native.Nat.{ℕ, _*_, _≤_}
-use mathlib.Core.Path.{_≡_}
-use mathlib.Core.Bool.{Bool, _&&_}
+use Prim.Native.Nat.{ℕ}
+use mathlib.Core.Bool.{Bool, cond, _&&_}
 use mathlib.Core.List.{List, [], _∷_, _++_}
 use lib.Dec.{leb}
-use lib.ListN.{length, take, drop}
+use lib.ListN.{length, drop}
 use Rattle.pairs.specs.declared.Pair.{Pair}
-use Rattle.pairs.specs.declared.Flat.{Flat}
 
 -- "1 to 512 of them"
 abbrev pub countIn : ℕ → Bool
@@ -29,10 +27,9 @@ pairsOf [] = []
 pairsOf (g ∷ []) = []
 pairsOf (g ∷ s ∷ l) = record { gap = g; size = s } ∷ pairsOf l
 
--- a flat form lays a list of pairs flat: it has their count, and of at most 512 the numbers in front of its words
-pub record Lays (flat : Flat) (ps : List Pair) : Type 0 where
-  pub count-is : flat .count ≡ length ps
-  pub words-are : length ps ≤ 512 → take (2 * length ps) (flat .words) ≡ flatten ps
+-- the pairs that go to where there is room for so many: all of them or, where they are too many, none
+abbrev pub thatFit : ℕ → List Pair → List Pair
+thatFit room ps = cond (leb (length ps) room) ps []
 
 -- what a list holds once another is stored in front: "Places past the count keep their contents", "Bytes past the file keep theirs"
 abbrev pub laidOver : {A : Type 0} → List A → List A → List A

@@ -1,15 +1,13 @@
-// A cycle in memory: a lent list of pairs, gap then size. `unpack` copies such a list into an array of 16-bit numbers, and `pack`
-// copies the array back into a lent list: these two hold the only loops over lent pairs, so that every other function that works on a
-// cycle takes a flat slice or a value. What a cycle's gaps and sizes may be, and how a cycle is written to a file, is left to others.
+// A cycle in memory: a lent list of pairs, gap then size. `unpack` copies such a list into lent 16-bit numbers, and `pack` copies them
+// back into a lent list: these two hold the only loops over lent pairs, so that every other function that works on a cycle takes a
+// flat slice. What a cycle's gaps and sizes may be, and how a cycle is written to a file, is left to others.
 
 ghost use mathlib.Core.Path.{_≡_};
-ghost use Prim.Native.Nat.{_-_, _*_, _≤_, _<_};
-ghost use mathlib.Core.Bool.{cond, _&&_};
-ghost use mathlib.Core.List.{List, _++_};
+ghost use Prim.Native.Nat.{_*_, _/_};
+ghost use mathlib.Core.Bool.{cond};
 ghost use lib.Dec.{leb};
-ghost use lib.ListN.{length, replicate};
-ghost use Rattle.pairs.specs.declared.Pair.{Pair};
-ghost use Rattle.pairs.specs.Pairs.{countIn, flatten, Lays, laidOver};
+ghost use lib.ListN.{length};
+ghost use Rattle.pairs.specs.Pairs.{countIn, flatten, pairsOf, laidOver, thatFit};
 
 // The most pairs that a cycle has.
 pub const MOST_PAIRS: usize = 512;
@@ -22,13 +20,6 @@ pub struct Pair {
     pub size: u16,
 }
 
-// A cycle laid flat: gap, size, gap, size, ..
-pub struct Flat {
-    pub words: [u16; 1024],
-    // How many pairs the list has. Above `MOST_PAIRS` the words hold none of them.
-    pub count: usize,
-}
-
 // Whether so many pairs are a cycle.
 pub fn count_in(count: usize) -> bool
     ensures { λ r. ⌜ r ≡ countIn count ⌝ }
@@ -38,23 +29,21 @@ pub fn count_in(count: usize) -> bool
 
 // How many of `count` pairs go to where there is room for so many: all of them or, where they are too many, none.
 pub fn fitting(count: usize, room: usize) -> usize
-    ensures { λ r. ⌜ r ≡ cond (leb count 512 && leb count room) count 0 ⌝ }
+    ensures { λ r. ⌜ r ≡ cond (leb count room) count 0 ⌝ }
 {
-    if (count <= MOST_PAIRS) & (count <= room) {
+    if count <= room {
         return count;
     }
     0
 }
 
-// The pairs of a lent list, laid flat, with zeros behind. The loop stores straight into the array that is returned.
-pub fn unpack(pairs: &[Pair]) -> Flat
-    ensures { λ r. ⌜ (r .count ≡ length (now (pairs .entry)))
-        × (length (now (pairs .entry)) ≤ 512 → r .words ≡ flatten (now (pairs .entry)) ++ replicate (1024 - 2 * length (now (pairs .entry))) 0)
-        × (512 < length (now (pairs .entry)) → r .words ≡ replicate 1024 0) ⌝ }
+// The numbers of a lent list of pairs, stored in front of lent words: gap, size, gap, size, .. Tells how many words they take. Where the
+// words have no room for all of the pairs, none are stored.
+pub fn unpack(pairs: &[Pair], words: &mut [u16]) -> usize
+    ensures { λ r. ⌜ (r ≡ 2 * length (thatFit (length (now (words .entry)) / 2) (now (pairs .entry))))
+        × (now (words .exit) ≡ laidOver (flatten (thatFit (length (now (words .entry)) / 2) (now (pairs .entry)))) (now (words .entry))) ⌝ }
 {
-    let count = pairs.len();
-    let todo = fitting(count, MOST_PAIRS);
-    let mut words = [0u16; 1024];
+    let todo = fitting(pairs.len(), words.len() / 2);
     let mut i: usize = 0;
     while i < todo {
         let pair = pairs[i];
@@ -62,16 +51,14 @@ pub fn unpack(pairs: &[Pair]) -> Flat
         words[2 * i + 1] = pair.size;
         i += 1;
     }
-    Flat { words, count }
+    2 * todo
 }
 
-// The pairs that a flat form holds, stored in front of a lent list. Where they are more than its places, nothing is stored.
-pub fn pack(flat: Flat, places: &mut [Pair])
-    ensures { λ _. ⌜ ((ps : List Pair) → Lays flat ps
-        → now (places .exit) ≡ cond (leb (length ps) 512 && leb (length ps) (length (now (places .entry)))) (laidOver ps (now (places .entry))) (now (places .entry))) ⌝ }
+// The pairs that flat words hold, stored in front of a lent list. Where the list has no place for all of them, none are stored.
+pub fn pack(words: &[u16], places: &mut [Pair])
+    ensures { λ _. ⌜ now (places .exit) ≡ laidOver (thatFit (length (now (places .entry))) (pairsOf (now (words .entry)))) (now (places .entry)) ⌝ }
 {
-    let todo = fitting(flat.count, places.len());
-    let words = flat.words;
+    let todo = fitting(words.len() / 2, places.len());
     let mut i: usize = 0;
     while i < todo {
         places[i] = Pair {

@@ -1,16 +1,13 @@
 // Writing a cycle file: its length is known before the first byte is stored, so that a refusal leaves the lent bytes alone. The call over
 // a lent list of pairs is exported by `maxeltu`. Refusals 12 and 20.
 use cyclefile::field_length;
-use pairs::Flat;
 use pairs::Pair;
 use spec::refusal;
 ghost use mathlib.Core.Path.{_≡_};
 ghost use Prim.Native.Nat.{_+_, _/_, _≤_, _<_};
-ghost use mathlib.Core.List.{List};
 ghost use lib.Seq.{sets};
 ghost use lib.ListN.{length, getD};
-ghost use Rattle.pairs.specs.declared.Pair.{Pair};
-ghost use Rattle.pairs.specs.Pairs.{noPair, pairsOf, Lays};
+ghost use Rattle.pairs.specs.Pairs.{noPair, pairsOf};
 ghost use Rattle.cyclefile.specs.File.{none, gapStands, sizeStands, fieldLength, mapByte, fieldBytes, pairBytes, pairsBytes, cycleBytes, bytesAfter, Writes};
 ghost use Rattle.writer.specs.InnerPromises.{start, beforeOf, past, writeAnswer};
 
@@ -169,17 +166,11 @@ fn write_flat(words: &[u16], file: &mut [u8]) -> Written
     Written::Bytes(length)
 }
 
-// Writes the cycle that a flat form holds, and tells the length of the file where it is written.
-pub fn write_unpacked(flat: Flat, file: &mut [u8], written: &mut u32) -> u32
-    ensures { λ r. ⌜ ((ps : List Pair) → Lays flat ps → Writes ps (now (file .entry)) (now (written .entry)) r (now (file .exit)) (now (written .exit))) ⌝ }
+// The same, and tells the length of the file where it is written.
+pub fn write(words: &[u16], file: &mut [u8], written: &mut u32) -> u32
+    ensures { λ r. ⌜ Writes (pairsOf (now (words .entry))) (now (file .entry)) (now (written .entry)) r (now (file .exit)) (now (written .exit)) ⌝ }
 {
-    let count = flat.count;
-    if !pairs::count_in(count) {
-        return refusal::COUNT;
-    }
-    let words = flat.words;
-    let all = &words[..];
-    match write_flat(&all[..2 * count], file) {
+    match write_flat(words, file) {
         Written::Bytes(length) => {
             *written = length as u32;
             0
