@@ -1,8 +1,7 @@
 -- The starts at which a check lays its stretches: the supply rule is kept everywhere exactly when it is kept at the reports of one
 -- round, the demand rule exactly when it is kept one minute after each of them.
-use Prim.Native.Nat.{ℕ, _+_, _*_, _/_, _^_, _≤_, _<_}
+use Prim.Native.Nat.{ℕ, _+_, _≤_}
 use native.Mathlib.Omega.{arith}
-use native.Mathlib.Nat.{div-le-self, le-trans, mul-le-mul}
 use mathlib.Core.Path.{_≡_, refl, sym}
 use mathlib.Core.Logic.{_↔_}
 use mathlib.Core.List.{List}
@@ -35,13 +34,6 @@ same-test : (a b : Bool) → (a ≡ true) ↔ (b ≡ true) → a ≡ b
 same-test true b h = sym (h .0 refl)
 same-test false true h = h .1 refl
 same-test false false h = refl
-
--- the records of whole rounds, at most 65,535 of them
-pub rounds-most : (m t d : ℕ) → m ≤ 65535 → d ≤ 65535 * 512 → m / t * d ≤ 65535 * (65535 * 512)
-rounds-most m t d h k = mul-le-mul (le-trans (div-le-self m t) h) k
-
-pub rounds-fit : (m t d : ℕ) → m ≤ 65535 → d ≤ 65535 * 512 → m / t * d < 2 ^ 64
-rounds-fit m t d h k = omega (arith, rounds-most m t d h k)
 
 module _ (ps : List Pair) (some : 1 ≤ length ps) (later : (i : ℕ) → 1 ≤ cycleRun ps .gap i) where
   pub supply-starts : (b r : ℕ) → startsPass (AtMost b) r ps ≡ supplyKept (Present b r) ps

@@ -5,7 +5,7 @@ use mathlib.Core.List.{List}
 use lib.ListN.{length, getD}
 use Rattle.pairs.specs.declared.Pair.{Pair}
 use Rattle.pairs.specs.Pairs.{noPair}
-use Rattle.schedule.specs.Schedules.{Schedule, minute}
+use Rattle.schedule.specs.Schedules.{Schedule, sum, minute}
 
 -- the gap and the size of pair j
 unfoldable pub pairGap : List Pair → ℕ → ℕ
@@ -21,3 +21,7 @@ cycleRun ps = record { size = λ i. pairSize ps (i % length ps); gap = λ i. pai
 -- the minutes of one round: the first report of the next one is at this minute
 unfoldable pub round : List Pair → ℕ
 round ps = minute (cycleRun ps) (length ps)
+
+-- the records of one round
+unfoldable pub roundRecords : List Pair → ℕ
+roundRecords ps = sum (cycleRun ps .size) (length ps)

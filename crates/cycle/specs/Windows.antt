@@ -18,7 +18,7 @@ use Rattle.cycle.specs.declared.stretches.Round.{Round}
 use Rattle.cycle.specs.declared.stretches.Rule.{Rule}
 use Rattle.cycle.specs.declared.stretches.Rule.the-variants.{AtMost, AtLeast}
 use Rattle.cycle.specs.declared.stretches.Window.{Window}
-use Rattle.cycle.specs.Cycles.{pairGap, pairSize, cycleRun, round}
+use Rattle.cycle.specs.Cycles.{pairGap, pairSize, cycleRun, round, roundRecords}
 
 -- A pair's fields by their place in it: its gap is field 0, its size field 1. Field k of pair j, and whether it may be x.
 abbrev pub field : ℕ → List Pair → ℕ → ℕ
@@ -50,14 +50,11 @@ pub record IsReport (s : Schedule) (i : ℕ) (x : Report) : Type 0 where
   pub gap-fits : x .gap ≤ 65535
   pub size-fits : x .size ≤ 65535
 
--- the records of one round
-unfoldable pub roundRecords : List Pair → ℕ
-roundRecords ps = sum (cycleRun ps .size) (length ps)
-
 -- x is the minutes and the records of one round
 pub record IsRound (ps : List Pair) (x : Round) : Type 0 where
   pub minutes : x .minutes ≡ round ps
   pub records : x .records ≡ roundRecords ps
+  pub minutes-fit : x .minutes ≤ 65535 * 512
   pub records-fit : x .records ≤ 65535 * 512
 
 -- x is m minutes in two parts: whole rounds, and from 1 minute to one round left over. From any start the m minutes hold what the
@@ -66,7 +63,7 @@ pub record IsParts (ps : List Pair) (m : ℕ) (x : Parts) : Type 0 where
   pub adds : (a : ℕ) → stretch (cycleRun ps) a m ≡ x .rounds + stretch (cycleRun ps) a (x .rest)
   pub some : 1 ≤ x .rest
   pub short : x .rest ≤ round ps
-  pub rounds-fit : x .rounds ≤ 65535 * (65535 * 512)
+  pub rounds-fit : x .rounds ≤ 65536 * (65535 * 512)
 
 -- The window spans the reports from `first` up to but not including `past`: the minutes between those two, and the records that it
 -- holds. None of the reports before `past` is v minutes or more after report `first`.

@@ -1,6 +1,5 @@
--- What a refusal of the check shows, and what a stretch of whole rounds holds, for every cycle. Proved in proofs/Witnesses.antt and
--- proofs/Rounds.antt. No function and no demand rests on it.
-use Prim.Native.Nat.{ℕ, _+_, _*_, _/_, _%_, _≤_, _<_}
+-- What a refusal of the check shows, for every cycle. Proved in proofs/CyclesPassed.antt. No function and no demand rests on it.
+use Prim.Native.Nat.{ℕ, _<_}
 use mathlib.Core.Path.{_≡_}
 use mathlib.Core.List.{List}
 use mathlib.Core.Bool.{false}
@@ -11,9 +10,8 @@ use Rattle.spec.specs.declared.Spec.{Spec}
 use Rattle.spec.specs.Limits.{sizeAllowed, gapAllowed}
 use Rattle.pairs.specs.declared.Pair.{Pair}
 use Rattle.schedule.specs.Schedules.{Schedule, stretch}
-use Rattle.cycle.specs.Cycles.{pairGap, pairSize, cycleRun, round}
+use Rattle.cycle.specs.Cycles.{pairGap, pairSize, cycleRun}
 use Rattle.cycle.specs.Check.{checkNumber}
-use Rattle.cycle.specs.Windows.{roundRecords}
 
 -- some stretch of R minutes holds more than B records
 abbrev pub TooFull : Rate → Schedule → Type 0
@@ -37,11 +35,3 @@ SupplyRefused = (spec : Spec) (ps : List Pair) → checkNumber spec ps ≡ 15 �
 
 abbrev pub DemandRefused : Type 0
 DemandRefused = (spec : Spec) (ps : List Pair) → checkNumber spec ps ≡ 16 → TooThin (spec .demand) (cycleRun ps)
-
--- For every cycle with no gap 0, a stretch holds its whole rounds times the records of a round, and what the minutes left over,
--- fewer than a round's, hold.
-abbrev pub WholeRounds : Type 0
-WholeRounds =
-    (ps : List Pair) → 1 ≤ length ps → ((j : ℕ) → j < length ps → 1 ≤ pairGap ps j) → (a w : ℕ)
-    → (w % round ps < round ps)
-    × (stretch (cycleRun ps) a w ≡ w / round ps * roundRecords ps + stretch (cycleRun ps) a (w % round ps))

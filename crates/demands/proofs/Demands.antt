@@ -28,6 +28,7 @@ use Rattle.even.proofs.EvenPlans.{even-plan-obeys, even-plan-longest, even-plan
 use Rattle.pairs.specs.declared.Pair.{Pair}
 use Rattle.cycle.specs.Cycles.{cycleRun}
 use Rattle.cycle.proofs.CyclesPassed.{passed-obeys}
+use Rattle.cycle.proofs.Rounds.{whole-rounds}
 use Rattle.cyclefile.specs.File.{CycleRead, pairs, refused, readCycle, writeNumber, Reads, bytesAfter}
 use Rattle.cyclefile.proofs.RoundTrip.{reads-back, writes-back, reads-cycles}
 use Rattle.cyclefile.proofs.Refusals.{CycleRefusal, cycle-numbered}
@@ -104,6 +105,7 @@ demands = record {
   refused-bytes-kept = bytes-kept;
   refused-meter-kept = refused-meter-kept;
   stretch-sum = stretch-is-sum;
+  whole-rounds = whole-rounds;
   required-supply = required-is-most;
   available-supply = available-is-least;
   test-best = λ s q p v rates e. test-passes s q p v rates .0 e .1;

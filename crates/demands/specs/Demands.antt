@@ -1,6 +1,6 @@
 -- The three demands as theorems, for every specification, cycle, plan and file. That each function gives what its definition says is
 -- its own contract; here is what the definitions promise. `demands` of proofs/Demands.antt proves all of it.
-use Prim.Native.Nat.{ℕ, _+_, _*_, _/_, _≤_, _<_}
+use Prim.Native.Nat.{ℕ, _+_, _*_, _/_, _%_, _≤_, _<_}
 use mathlib.Core.Path.{_≡_}
 use mathlib.Core.Logic.{_↔_, _⊎_}
 use mathlib.Core.Bool.{true}
@@ -30,7 +30,7 @@ use Rattle.feasibility.specs.Test.{familyOf, testOf, BestOfAll}
 use Rattle.even.specs.declared.EvenPlan.the-variants.{Found, Refused}
 use Rattle.even.specs.Even.{evenPlan, evenly}
 use Rattle.pairs.specs.declared.Pair.{Pair}
-use Rattle.cycle.specs.Cycles.{cycleRun}
+use Rattle.cycle.specs.Cycles.{pairGap, cycleRun, round, roundRecords}
 use Rattle.cycle.specs.Check.{checkNumber}
 use Rattle.cyclefile.specs.File.{pairs, refused, cycleBytes, readCycle, writeNumber, Reads, bytesAfter, AreBytes, Words}
 use Rattle.meter.specs.declared.Meter.{Meter}
@@ -65,6 +65,10 @@ pub record Demands : Type 0 where
 
   -- a stretch holds, summed, the sizes of the reports at its minutes, however many reports are looked at: every stretch below is such a sum
   pub stretch-sum : (s : Schedule) → ((i : ℕ) → 1 ≤ s .gap i) → (a w more : ℕ) → stretch s a w ≡ sum (share s a w) (a + w + more)
+  -- Checking a cycle without doubling it (document 02, Req 04). Of every cycle of 1 to 512 pairs, or more, with no gap 0, in or out of any range,
+  -- any stretch holds its whole rounds times the records of a round, and what the minutes left over, fewer than a round's, hold.
+  pub whole-rounds : (c : List Pair) → 1 ≤ length c → ((j : ℕ) → j < length c → 1 ≤ pairGap c j) → (a w : ℕ)
+      → (w % round c < round c) × (stretch (cycleRun c) a w ≡ w / round c * roundRecords c + stretch (cycleRun c) a (w % round c))
   -- the required supply is what minutes 0 to R - 1 hold, and no stretch of R minutes holds more
   pub required-supply : (s : Spec) (q : Rates) (k : ℕ) (p : Plan) (v : ℕ) → bothRates s ≡ Both q → scheduleFor MinimumDemand s k ≡ ScheduleOf p v
       → (stretch (run p) 0 (q .r) ≡ v) × ((a : ℕ) → stretch (run p) a (q .r) ≤ v)

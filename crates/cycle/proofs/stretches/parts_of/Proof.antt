@@ -1,18 +1,16 @@
--- `parts_of` meets its contract. No gap is 0, so a round has some minutes to divide by; with at most 65,536 minutes there are at most 65,535
--- rounds, so their records fit. `stretch-parts` says that the two parts hold what the whole holds.
+-- `parts_of` meets its contract. No gap is 0, so a round has some minutes to divide by; with at most 65,536 minutes there are no more
+-- rounds, so their records fit. `parts-add` says that the two parts hold what the whole holds.
 use Prim.Native.Nat.{ℕ, _-_, _≤_, _<_}
 use native.Mathlib.Omega.{arith}
-use native.Mathlib.Nat.{mod-lt, mod-le}
+use native.Mathlib.Nat.{mod-lt}
 use mathlib.Core.List.{List}
-use lib.ListN.{length}
 use borrow.Author.Needs.{needs}
 use Rattle.pairs.specs.Pairs.{pairsOf}
 use Rattle.pairs.proofs.FlatLists.{length-pairsOf}
-use Rattle.schedule.proofs.Repeats.{stretch-parts}
 use Rattle.cycle.specs.Cycles.{round}
-use Rattle.cycle.specs.Windows.{runOf, Walkable, roundRecords}
-use Rattle.cycle.proofs.Runs.{gap-again, size-again, round-some}
-use Rattle.cycle.proofs.Starts.{rounds-most, rounds-fit}
+use Rattle.cycle.specs.Windows.{Walkable}
+use Rattle.cycle.proofs.Runs.{round-some}
+use Rattle.cycle.proofs.Rounds.{parts-add, rounds-most, rounds-fit, rest-fits}
 use Rattle.cycle.proofs.stretches.parts_of.Statement.{statement}
 use Rattle.cycle.proofs.stretches.parts_of.Tie as tie
 
@@ -38,10 +36,9 @@ rem-t8 : tie.Need-rem-t8
 rem-t8 c = omega (arith, some-minutes _ (c .before .before .before .before .before .pre .0))
 
 add-t9 : tie.Need-add-t9
-add-t9 c = record { fits = omega (arith, mod-le (c .before .before .before .before .before .args .minutes - 1) (c .before .before .before .round-of .result .minutes)) }
+add-t9 c = record { fits = rest-fits _ _ _ (omega arith) (omega arith) }
 
 returns : tie.Need-returns
-unfolding round roundRecords
 returns c =
     let start = c .before .before .before .before .before in
     let l = start .args .words .now in
@@ -49,7 +46,7 @@ returns c =
     let r = c .before .before .before .round-of .ensures in
     let some : 0 < c .before .before .before .round-of .result .minutes = omega (arith, some-minutes l ok) in
     record {
-      adds = λ a. rw (r .minutes, r .records) (stretch-parts (runOf l) (ok .later) (length (pairsOf l)) (size-again (pairsOf l)) (gap-again (pairsOf l)) a _ (start .pre .1));
+      adds = parts-add (pairsOf l) (ok .later) _ _ (r .minutes) (r .records) _ (start .pre .1);
       some = omega arith;
       short = omega (arith, mod-lt (start .args .minutes - 1) some);
       rounds-fit = rounds-most _ _ _ (omega arith) (omega arith);

@@ -9,8 +9,8 @@ use Rattle.pairs.proofs.FlatLists.{length-pairsOf}
 use Rattle.schedule.specs.Schedules.{sum, minute}
 use Rattle.schedule.proofs.Sums.{sum-none, sum-more}
 use Rattle.schedule.proofs.Before.{minute-none, minute-more}
-use Rattle.cycle.specs.Cycles.{round}
-use Rattle.cycle.specs.Windows.{runOf, roundRecords}
+use Rattle.cycle.specs.Cycles.{round, roundRecords}
+use Rattle.cycle.specs.Windows.{runOf}
 use Rattle.cycle.proofs.stretches.round_of.Statement.{statement}
 use Rattle.cycle.proofs.stretches.round_of.Tie as tie
 
@@ -51,6 +51,7 @@ returns c =
     record {
       minutes = rw e at (c .before .loop .inv .1);
       records = rw e at (c .before .loop .inv .2);
+      minutes-fit = omega arith;
       records-fit = omega arith;
     }
 
