@@ -265,6 +265,7 @@ fn remade(library: &mut Library, file: &[u8]) -> (u32, bool) {
     (library.make_meter(file, &mut meter), meter.bytes() == [HELD_BYTE; BYTES])
 }
 
-fn pairs_of(pairs: &[(u16, u16)]) -> Vec<Pair> {
+/// A cycle from its gaps and sizes.
+pub fn pairs_of(pairs: &[(u16, u16)]) -> Vec<Pair> {
     pairs.iter().map(|&(gap, size)| Pair { gap, size }).collect()
 }

@@ -21,6 +21,7 @@ mod offers;
 mod program;
 mod random;
 mod ring;
+mod rounds;
 mod samples;
 
 use group::{Runner, RUNS};
@@ -42,6 +43,7 @@ fn main() {
             samples::all(&mut runner);
             limits::all(&mut runner);
             edges::all(&mut runner);
+            rounds::all(&mut runner);
             calls::reference_itself(&mut runner);
             exhaustive::all(&mut runner);
             calls::all(&mut runner);
