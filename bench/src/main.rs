@@ -2,6 +2,7 @@
 
 mod calls;
 mod meters;
+mod windows;
 
 use calls::{Calls, LIBRARY, PLAIN_C};
 use reference::schedule::LAID_OUT;
@@ -96,6 +97,7 @@ fn cycles() {
         ),
         (512, "512 pairs, gaps 1 and sizes 1, R = 20,000, P = 1", both_rates((1, 1), (1, 1), (20_000, 20_000), (1, 1))),
         (1, "1 pair, gaps 30 to 90, R = P = 20,160", both_rates((1, 9), (30, 90), (20_000, 20_160), wide)),
+        (1, "1 pair, gap 1, R = 20,000, P = 20,160", both_rates((1, 1), (1, 1), (20_000, 20_000), (20_000, 20_160))),
     ];
     for (count, name, spec) in inputs {
         let pairs = changing(&spec, count);
@@ -181,4 +183,5 @@ fn main() {
     plans();
     reports();
     meters::all();
+    windows::all();
 }
