@@ -28,7 +28,7 @@ pub fn count_in(count: usize) -> bool
 }
 
 // How many of `count` pairs go to where there is room for so many: all of them or, where they are too many, none.
-pub fn fitting(count: usize, room: usize) -> usize
+fn fitting(count: usize, room: usize) -> usize
     ensures { λ r. ⌜ r ≡ cond (leb count room) count 0 ⌝ }
 {
     if count <= room {

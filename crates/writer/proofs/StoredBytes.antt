@@ -1,20 +1,16 @@
 -- Laws of writing: that parts stored one behind the other are stored as one. Assumes nothing.
-use mathlib.Core.Path.{_≡_, refl, sym, ap, _∙_}
+use mathlib.Core.Path.{_≡_, sym, ap, _∙_}
 use Prim.Native.Nat.{ℕ, suc, _+_, _≤_, _<_}
 use native.Mathlib.Nat.{zero-add, add-zero}
 use native.Mathlib.Numerals.{add-one}
 use native.Mathlib.Omega.{arith}
-use mathlib.Core.Bool.{true, false}
 use mathlib.Core.List.{List, [], _∷_, _++_}
 use lib.ListN.{length, getD, set, drop, length-append, drop-of-length-le}
-use borrow.Author.Tests.{lt-ltb, le-ltb}
 use lib.Seq.{sets, sets-eq, drop-cons}
 use Rattle.pairs.specs.declared.Pair.{Pair}
-use Rattle.pairs.specs.Pairs.{countIn, laidOver, noPair}
+use Rattle.pairs.specs.Pairs.{laidOver, noPair}
 use Rattle.cyclefile.proofs.Fields.{length-fieldBytes}
-use Rattle.writer.specs.declared.Written.the-variants.{Bytes, Refused as NotWritten}
-use Rattle.writer.specs.InnerPromises.{writeAnswer}
-use Rattle.cyclefile.specs.File.{bytesOf, writeNumber, bytesAfter, Before, none, behind, gapStands, sizeStands, mapByte, fieldBytes, fieldLength, pairBytes, pairsBytes, cycleBytes}
+use Rattle.cyclefile.specs.File.{bytesOf, Before, none, behind, gapStands, sizeStands, mapByte, fieldBytes, fieldLength, pairBytes, pairsBytes, cycleBytes}
 
 -- the bytes of the pairs from i on are those of pair i, and of the pairs behind it
 pub pairsBytes-next : (before : Before) (ps : List Pair) (i : ℕ) → i < length ps → pairsBytes before (drop i ps) ≡ pairBytes before (getD ps i noPair) ++ pairsBytes (behind (getD ps i noPair)) (drop (i + 1) ps)
@@ -45,26 +41,10 @@ pub left-none : (before : Before) (ps : List Pair) (i : ℕ) → length ps ≤ i
 unfolding pairsBytes
 left-none before ps i h = rw (drop-of-length-le ps h)
 
--- ---- the whole file, by cases
-
-module _ (ps : List Pair) (old : List ℕ) where
-  pub bad-count : countIn (length ps) ≡ false → (NotWritten 12 ≡ writeAnswer (length old) ps) × (old ≡ bytesAfter ps old)
-  unfolding writeNumber
-  bad-count h = simp h (refl, refl)
-
-  count-and-pairs : length (cycleBytes ps) ≤ length old → sets (sets old 0 (bytesOf (length ps))) 2 (pairsBytes none ps) ≡ laidOver (cycleBytes ps) old
-  unfolding cycleBytes
-  count-and-pairs h =
-      sym (sets-append old 0 (bytesOf (length ps)) (pairsBytes none ps))
-      ∙ sets-eq (cycleBytes ps) old 0 (rw zero-add h)
-      ∙ ap (λ (k : ℕ). cycleBytes ps ++ drop k old) (zero-add (length (cycleBytes ps)))
-
-  module _ (counted : countIn (length ps) ≡ true) where
-    pub few-bytes : length old < length (cycleBytes ps) → (NotWritten 20 ≡ writeAnswer (length old) ps) × (old ≡ bytesAfter ps old)
-    unfolding writeNumber
-    few-bytes h = simp (counted, lt-ltb (length old) (length (cycleBytes ps)) h) (refl, refl)
-
-    pub stored-whole : length (cycleBytes ps) ≤ length old
-        → (Bytes (length (cycleBytes ps)) ≡ writeAnswer (length old) ps) × (sets (sets old 0 (bytesOf (length ps))) 2 (pairsBytes none ps) ≡ bytesAfter ps old)
-    unfolding writeNumber
-    stored-whole h = simp (counted, le-ltb (length old) (length (cycleBytes ps)) h) (refl, count-and-pairs h)
+-- the count and the pairs, stored one behind the other, are the file
+pub count-and-pairs : (ps : List Pair) (old : List ℕ) → length (cycleBytes ps) ≤ length old → sets (sets old 0 (bytesOf (length ps))) 2 (pairsBytes none ps) ≡ laidOver (cycleBytes ps) old
+unfolding cycleBytes
+count-and-pairs ps old h =
+    sym (sets-append old 0 (bytesOf (length ps)) (pairsBytes none ps))
+    ∙ sets-eq (cycleBytes ps) old 0 (rw zero-add h)
+    ∙ ap (λ (k : ℕ). cycleBytes ps ++ drop k old) (zero-add (length (cycleBytes ps)))

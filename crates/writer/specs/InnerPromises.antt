@@ -2,15 +2,10 @@
 -- a function that others call.
 use Prim.Native.Nat.{ℕ, _+_}
 use mathlib.Core.Bool.{true, false, cond}
-use mathlib.Core.List.{List}
-use lib.Dec.{eqb}
-use lib.ListN.{length}
 use Rattle.pairs.specs.declared.Pair.{Pair}
 use Rattle.pairs.specs.Pairs.{noPair}
-use Rattle.cyclefile.specs.File.{Before, none, behind, cycleBytes, writeNumber}
+use Rattle.cyclefile.specs.File.{Before, none, behind}
 use Rattle.writer.specs.declared.Cursor.{Cursor}
-use Rattle.writer.specs.declared.Written.{Written}
-use Rattle.writer.specs.declared.Written.the-variants.{Bytes, Refused as NotWritten}
 
 -- the first pair's map byte stands after the count
 abbrev pub start : Cursor
@@ -23,7 +18,3 @@ beforeOf c = cond (c .first) none (behind (c .last))
 -- past a pair that takes so many bytes
 abbrev pub past : Cursor → Pair → ℕ → Cursor
 past c p taken = record { at = c .at + taken; first = false; last = p }
-
--- the length of the file, or the refusal
-abbrev pub writeAnswer : ℕ → List Pair → Written
-writeAnswer room ps = cond (eqb (writeNumber room ps) 0) (Bytes (length (cycleBytes ps))) (NotWritten (writeNumber room ps))

@@ -8,14 +8,8 @@ ghost use Prim.Native.Nat.{_+_, _/_, _≤_, _<_};
 ghost use lib.Seq.{sets};
 ghost use lib.ListN.{length, getD};
 ghost use Rattle.pairs.specs.Pairs.{noPair, pairsOf};
-ghost use Rattle.cyclefile.specs.File.{none, gapStands, sizeStands, fieldLength, mapByte, fieldBytes, pairBytes, pairsBytes, cycleBytes, bytesAfter, Writes};
-ghost use Rattle.writer.specs.InnerPromises.{start, beforeOf, past, writeAnswer};
-
-// What writing a file gives: how many bytes it has, or a refusal.
-enum Written {
-    Bytes(usize),
-    Refused(u32),
-}
+ghost use Rattle.cyclefile.specs.File.{none, gapStands, sizeStands, fieldLength, mapByte, fieldBytes, pairBytes, pairsBytes, cycleBytes, Writes};
+ghost use Rattle.writer.specs.InnerPromises.{start, beforeOf, past};
 
 // Where writing stands: `at` bytes are passed, and `last` is the pair passed last, where the next is not the first.
 struct Cursor {
@@ -148,33 +142,20 @@ fn put_pairs(words: &[u16], file: &mut [u8])
     }
 }
 
-// Writes the cycle of a flat slice: gap, size, gap, size, ..
-fn write_flat(words: &[u16], file: &mut [u8]) -> Written
-    ensures { λ r. ⌜ (r ≡ writeAnswer (length (now (file .entry))) (pairsOf (now (words .entry))))
-        × (now (file .exit) ≡ bytesAfter (pairsOf (now (words .entry))) (now (file .entry))) ⌝ }
-{
-    let count = words.len() / 2;
-    if !pairs::count_in(count) {
-        return Written::Refused(refusal::COUNT);
-    }
-    let length = file_length(words);
-    if file.len() < length {
-        return Written::Refused(refusal::NO_ROOM);
-    }
-    put_field(file, 0, true, count as u16);
-    put_pairs(words, file);
-    Written::Bytes(length)
-}
-
-// The same, and tells the length of the file where it is written.
+// Writes the cycle of a flat slice: gap, size, gap, size, .. Tells the length of the file where it is written.
 pub fn write(words: &[u16], file: &mut [u8], written: &mut u32) -> u32
     ensures { λ r. ⌜ Writes (pairsOf (now (words .entry))) (now (file .entry)) (now (written .entry)) r (now (file .exit)) (now (written .exit)) ⌝ }
 {
-    match write_flat(words, file) {
-        Written::Bytes(length) => {
-            *written = length as u32;
-            0
-        }
-        Written::Refused(number) => number,
+    let count = words.len() / 2;
+    if !pairs::count_in(count) {
+        return refusal::COUNT;
     }
+    let length = file_length(words);
+    if file.len() < length {
+        return refusal::NO_ROOM;
+    }
+    put_field(file, 0, true, count as u16);
+    put_pairs(words, file);
+    *written = length as u32;
+    0
 }
