@@ -1,5 +1,5 @@
--- A local array of unsigned integers in a walk by hand: `[x; n]` is written whole, is had as a row of elements, is lent, and is whole again. It
--- says nothing of this crate.
+-- A local array in a walk by hand, `[0u16; 1024]`: it is written whole, is had as a row of elements, is lent, and is whole again. It says
+-- nothing of what the words are. Lending is the same at every width and length.
 --     zeros          the list that `[0u16; 1024]` is; `zeros-typed` has its type, `zeros-row` takes its cell apart into the row of its elements, `length-lit` is its length
 --     row-whole      a row as long as the array is the array's room again
 --     front-room     its first elements may be lent
