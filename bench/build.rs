@@ -4,6 +4,8 @@
 use std::path::{Path, PathBuf};
 
 fn link(archive: &Path, name: &str) {
+    // It is linked by its folder: another name would link another library that lies beside it.
+    assert!(archive.ends_with(format!("lib{name}.a")), "{} is not named lib{name}.a", archive.display());
     let folder = archive.parent().expect("a folder that holds the archive");
     println!("cargo:rerun-if-changed={}", archive.display());
     println!("cargo:rustc-link-search=native={}", folder.display());

@@ -34,9 +34,9 @@
  *    several threads at once are fine as long as they share no place that one of
  *    them writes. So one meter belongs to one thread at a time.
  *  - A call that checks, reads or writes a cycle holds it once, unpacked, on the
- *    stack: 2,048 bytes, and with all else that it needs under 2,300 (measured on
- *    x86-64 by tests/c/stack.c). A check looks at each pair a fixed number of
- *    times at most, whatever R and P are.
+ *    stack: 2,048 bytes, and with all else that it needs some 2,250 (measured on
+ *    x86-64; tests/c/stack.c tells it of another build). A check looks at each
+ *    pair a fixed number of times at most, whatever R and P are.
  *
  * Specification file: one byte of bit map (bit 0, the lowest, size; 1 gap;
  * 2 supply; 3 demand; 4 duration). Then, in that order, the pairs whose bit

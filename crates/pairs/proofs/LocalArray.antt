@@ -50,7 +50,7 @@ repeated : (w : Width) (n x : ℕ) → x < 2 ^ bits w → Is (Array (UInt w) n) 
 repeated w n x h = (replicate n (vint w x), ((refl, length-replicate n x), each-of w n x h))
 
 -- the machine value of a list of numbers
-abbrev pub arr : Width → List ℕ → Val
+abbrev arr : Width → List ℕ → Val
 arr w xs = arrayVal (map (vint w) xs)
 
 module _ {M : Type 1} (𝓤 : URA M) (H : Heap 𝓤) (A : Atoms 𝓤) (W : Given 𝓤 H A) (w : Width) (n : ℕ) (b : ℕ) where
@@ -86,7 +86,7 @@ length-zeros = length-replicate {A = ℕ} 1024 0
 abbrev zeros-val : Val
 zeros-val = arrayVal (replicate 1024 (vint w16 0))
 
-abbrev pub words : Ty
+abbrev words : Ty
 words = tyArray (tyInt w16) 1024
 
 pub array-room : (xs : List ℕ) → length xs ≡ 1024 → Room u16 (length xs)

@@ -1,6 +1,6 @@
--- `maxeltu_check_cycle` meets its contract: a walk of its MIR, by hand. A local array is lent to `unpack` with the slice of pairs
--- (`calls-unpack`); its front, which then holds the pairs, is lent to `check_file` with the specification's bytes. All that the proof knows of the two is that each
--- meets its contract. A shared slice is Copy: what each slice owns is had twice, one goes to the callee, beside its lifetime's token, which comes
+-- `maxeltu_check_cycle` meets its contract: a walk of its MIR, by hand. A local array is lent to `unpack` with the slice of pairs (`calls-unpack`);
+-- its front, which then holds the pairs, is lent to `check_file` with the specification's bytes. All that the proof knows of the two is their
+-- contracts. A shared slice is Copy: what each slice owns is had twice, one goes to the callee, beside its lifetime's token, which comes
 -- back, and one is kept for the exit. Assumes nothing.
 use mathlib.Core.Path.{_≡_, refl, sym, ap, _∙_}
 use Prim.Native.Nat.{ℕ, _/_}
