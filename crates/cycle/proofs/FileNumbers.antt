@@ -1,16 +1,15 @@
 -- The number of a check by what reading a specification's file gave, and of a list that has too many pairs.
 use Prim.Native.Nat.{ℕ}
 use mathlib.Core.Path.{_≡_, refl}
-use mathlib.Core.Bool.{Bool, true, false, cond, and-false}
-use mathlib.Core.List.{List, []}
-use lib.Dec.{leb}
-use lib.ListN.{length}
+use mathlib.Core.Bool.{and-false}
+use mathlib.Core.List.{List}
 use Rattle.spec.specs.declared.Spec.{Spec}
 use Rattle.spec.specs.declared.SpecRead.{SpecRead}
 use Rattle.spec.specs.declared.SpecRead.the-variants.{Accepted, Refused}
 use Rattle.spec.specs.File.{ifRead}
 use Rattle.pairs.specs.declared.Pair.{Pair}
 use Rattle.pairs.specs.Pairs.{thatFit}
+use Rattle.pairs.proofs.Counts.{fit-cases}
 use Rattle.cycle.specs.Check.{cycleNumber, checkNumber, checkFileNumber}
 
 -- a specification's file that is refused, that is accepted
@@ -23,10 +22,6 @@ unfolding checkFileNumber
 read-accepted ps e = rw e
 
 -- more than 512 pairs get the number of none
-fit-by : (read : SpecRead) (ps : List Pair) (t : Bool) → leb (length ps) 512 ≡ t → checkFileNumber read (cond t ps []) ≡ checkFileNumber read ps
-unfolding checkFileNumber checkNumber cycleNumber
-fit-by read ps true e = refl
-fit-by read ps false e = rw (e, and-false)
-
 pub fit-number : (read : SpecRead) (ps : List Pair) → checkFileNumber read (thatFit 512 ps) ≡ checkFileNumber read ps
-fit-number read ps = fit-by read ps (leb (length ps) 512) refl
+unfolding checkFileNumber checkNumber cycleNumber
+fit-number read ps = fit-cases 512 ps (λ (qs : List Pair). checkFileNumber read qs ≡ checkFileNumber read ps) (λ e. refl) (λ e. rw (e, and-false))

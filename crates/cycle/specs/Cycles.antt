@@ -22,6 +22,6 @@ cycleRun ps = record { size = λ i. pairSize ps (i % length ps); gap = λ i. pai
 unfoldable pub round : List Pair → ℕ
 round ps = minute (cycleRun ps) (length ps)
 
--- the records of one round
+-- document 02, Req 04: "the records of a round"
 unfoldable pub roundRecords : List Pair → ℕ
 roundRecords ps = sum (cycleRun ps .size) (length ps)

@@ -91,6 +91,12 @@ accepted-by places file ps h (begun long right room) = record { long = long; cou
 pub accepted : (places : ℕ) (file : List ℕ) (ps : List Pair) → readCycle places file ≡ pairs ps → WholeRead places file ps
 accepted places file ps h = accepted-by places file ps h (begins places file)
 
+-- whose pairs are all stored
+pub stored-all : (places : ℕ) (file : List ℕ) (ps : List Pair) → readCycle places file ≡ pairs ps → storedPairs places file ≡ ps
+stored-all places file ps h =
+    let a = accepted places file ps h in
+    pair-by-pair places file (a .long) (a .counted) (a .room) .1 ∙ passed-all (word file 0) none (drop 2 file) ps (a .reads)
+
 -- ---- what the answer tells
 
 -- a count: so many pairs are the file's, and they are stored
@@ -111,7 +117,7 @@ counted-by places file n (pairs ps) e h =
       long = l;
       most = omega (arith, l, w, countIn-true (word file 0) (a .counted) .1);
       reads = e;
-      stores = pair-by-pair places file (a .long) (a .counted) (a .room) .1 ∙ passed-all (word file 0) none (drop 2 file) ps (a .reads);
+      stores = stored-all places file ps e;
     }
 counted-by places file n (refused m) e h = absurd (let z : _≡_ {A = ℕ} 0 1 = cc in omega arith)
 

@@ -15,12 +15,13 @@ ghost use Prim.Native.Nat.{_/_, min};
 ghost use lib.ListN.{length};
 ghost use Rattle.spec.specs.File.{ifRead, readSpec};
 ghost use Rattle.cycle.specs.Check.{checkFileNumber};
-ghost use Rattle.cyclefile.specs.File.{readCycle, Reads, Writes};
+ghost use Rattle.pairs.specs.Pairs.{flatten, laidOver};
+ghost use Rattle.cyclefile.specs.File.{readCycle, storedPairs, Reads, Writes};
 ghost use Rattle.families.specs.declared.Family.the-variants.{MinimumDemand, MaximumSupply};
 ghost use Rattle.meter.specs.Ring.{fresh, stepped, toldOr};
 ghost use Rattle.answers.specs.Answers.{heldAfter};
 ghost use Rattle.maxeltu.specs.Verdict.{verdictOf};
-ghost use Rattle.maxeltu.specs.InnerPromises.{WordsRead};
+ghost use Rattle.maxeltu.specs.InnerPromises.{fileRead, countAfter};
 ghost use Rattle.maxeltu.specs.Calls.{consistencyCall, scheduleCall, testCall, evenCall, reportCall};
 
 // The loader's call: 0 exactly when both files are read and the cycle is passed, or the first number met, the specification's first.
@@ -206,7 +207,9 @@ struct FileRead {
 
 // Reads a cycle file into lent words, and tells the count where it can be read.
 fn read_words(file: &[u8], places: usize, words: &mut [u16], count: &mut u32) -> FileRead
-    ensures { λ r. ⌜ WordsRead (readCycle (min places (length (now (words .entry)) / 2)) (now (file .entry))) r (now (words .exit)) (now (count .entry)) (now (count .exit)) ⌝ }
+    ensures { λ r. ⌜ (r ≡ fileRead (readCycle (min places (length (now (words .entry)) / 2)) (now (file .entry))))
+        × (now (words .exit) ≡ laidOver (flatten (storedPairs (min places (length (now (words .entry)) / 2)) (now (file .entry)))) (now (words .entry)))
+        × (now (count .exit) ≡ countAfter (readCycle (min places (length (now (words .entry)) / 2)) (now (file .entry))) (now (count .entry))) ⌝ }
 {
     match reading::read(file, places, words) {
         CycleFile::Pairs(n) => {

@@ -33,8 +33,8 @@ use denote.Triple.Call.{calls-at}
 use denote.Triple.Spec.{tripleOf}
 use denote.Triple.Clauses.{ensured, lasts}
 use Rattle.pairs.specs.declared.Pair.{Pair}
-use Rattle.pairs.specs.Pairs.{pairsOf, laidOver, thatFit}
 use Rattle.pairs.proofs.Unpacked.{Unpacks}
+use Rattle.pairs.proofs.Packed.{Packs}
 use Rattle.pairs.proofs.LocalArray.{lent-at, Kept, lends-row, row-back, lends-front, front-back}
 use Rattle.pairs.proofs.Pair as P
 use Rattle.pairs.proofs.unpack as unpack
@@ -50,16 +50,12 @@ module _ {M : Type 1} (𝓤 : URA M) (H : Heap 𝓤) (A : Atoms 𝓤) (mem : Mem
   abbrev pub Pack : Contract 𝓤
   Pack = tripleOf 𝓤 H A pack.signature (pack.spec 𝓤 H A mem run)
 
--- a slice of pairs as it is passed, and the first of the words of local l
+-- a slice of pairs as it is passed, and one of the words xs at the start of local l
 abbrev pub passed : RefT (List Pair) → Val
 passed p = sliceVal (p .ptr) (length (p .now))
 
 abbrev pub lent : ℕ → List ℕ → Val
 lent l xs = sliceVal (l, 0) (length xs)
-
--- what `pack` says of the list
-abbrev pub Packs : List ℕ → List Pair → List Pair → Type 0
-Packs words old new = new ≡ laidOver (thatFit (length old) (pairsOf words)) old
 
 module _ {M : Type 1} (𝓤 : URA M) (H : Heap 𝓤) (A : Atoms 𝓤) (W : Given 𝓤 H A) (mem : Memory → SProp 𝓤) (run : Routine → Fun 𝓤) (κ : Lft) (s : Share) (p : RefT (List Pair)) (l : ℕ) where
   -- what each callee is passed

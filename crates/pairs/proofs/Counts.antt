@@ -25,17 +25,16 @@ least-by n room false e = simp e (zero-le, zero-le)
 pub copied-least : (n room : ℕ) → (copied n room ≤ n) × (copied n room ≤ room)
 copied-least n room = least-by n room (leb n room) refl
 
--- those are the pairs that fit
-fit-by : (room : ℕ) (ps : List Pair) (t : Bool) → take (cond t (length ps) 0) ps ≡ cond t ps []
-fit-by room ps true = take-length ps
-fit-by room ps false = refl
+-- what holds of all of the pairs, where they fit, and of none, where they do not, holds of those that fit
+cases-by : (ps : List Pair) (Q : List Pair → Type 0) (fits t : Bool) → fits ≡ t → (fits ≡ true → Q ps) → (fits ≡ false → Q []) → Q (cond t ps [])
+cases-by ps Q fits true e all none = all e
+cases-by ps Q fits false e all none = none e
+
+pub fit-cases : (room : ℕ) (ps : List Pair) (Q : List Pair → Type 0) → (leb (length ps) room ≡ true → Q ps) → (leb (length ps) room ≡ false → Q []) → Q (thatFit room ps)
+fit-cases room ps Q all none = cases-by ps Q (leb (length ps) room) (leb (length ps) room) refl all none
 
 pub take-fitting : (room : ℕ) (ps : List Pair) → take (copied (length ps) room) ps ≡ thatFit room ps
-take-fitting room ps = fit-by room ps (leb (length ps) room)
-
-count-by : (ps : List Pair) (t : Bool) → length (cond t ps []) ≡ cond t (length ps) 0
-count-by ps true = refl
-count-by ps false = refl
+take-fitting room ps = fit-cases room ps (λ (qs : List Pair). take (copied (length ps) room) ps ≡ qs) (λ e. simp e (take-length ps)) (λ e. simp e)
 
 pub count-fitting : (room : ℕ) (ps : List Pair) → length (thatFit room ps) ≡ copied (length ps) room
-count-fitting room ps = count-by ps (leb (length ps) room)
+count-fitting room ps = fit-cases room ps (λ (qs : List Pair). length qs ≡ copied (length ps) room) (λ e. simp e) (λ e. simp e)

@@ -5,7 +5,7 @@ use native.Mathlib.Numerals.{add-one}
 use native.Mathlib.Omega.{arith}
 use mathlib.Core.List.{List, [], _∷_, _++_}
 use lib.ListN.{length, getD, take}
-use lib.Seq.{take-nil}
+use lib.Seq.{take-nil, take-suc}
 use Rattle.pairs.specs.declared.Pair.{Pair}
 use Rattle.pairs.specs.Pairs.{noPair, flatten, pairsOf}
 
@@ -37,6 +37,10 @@ pub length-flatten : (ps : List Pair) → length (flatten ps) ≡ 2 * length ps
 length-flatten [] = refl
 length-flatten (p ∷ ps) = ap (λ (k : ℕ). suc (suc k)) (length-flatten ps) ∙ sym (twice-suc (length ps))
 
+-- the words in front that hold pairs are there, all of them
+pub length-front : (ps : List Pair) (words : List ℕ) (used : ℕ) → take used words ≡ flatten ps → used ≡ 2 * length ps → length (take used words) ≡ used
+length-front ps words used front e = ap length front ∙ length-flatten ps ∙ sym e
+
 pub length-pairsOf : (l : List ℕ) → length (pairsOf l) ≡ length l / 2
 length-pairsOf [] = refl
 length-pairsOf (g ∷ []) = refl
@@ -61,6 +65,10 @@ pub pair-pairsOf : (l : List ℕ) (j : ℕ) → j < length l / 2 → getD (pairs
 pair-pairsOf l j h = ap (λ (g : ℕ). record { gap = g; size = getD (pairsOf l) j noPair .size }) (gap-pairsOf l j h) ∙ ap (λ (s : ℕ). record { gap = getD l (2 * j) 0; size = s }) (size-pairsOf l j)
 
 -- ---- parts
+
+-- one pair more
+pub take-next : (ps : List Pair) (i : ℕ) → i < length ps → take (i + 1) ps ≡ take i ps ++ (getD ps i noPair ∷ [])
+take-next ps i h = ap (λ (n : ℕ). take n ps) (add-one i) ∙ take-suc ps i noPair h
 
 pub flatten-append : (ps qs : List Pair) → flatten (ps ++ qs) ≡ flatten ps ++ flatten qs
 flatten-append [] qs = refl

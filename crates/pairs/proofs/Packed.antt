@@ -1,14 +1,13 @@
 -- Laws of packing: what the lent list holds while i pairs are packed, and when all are. Assumes nothing.
 use mathlib.Core.Path.{_≡_, sym, ap, _∙_}
 use Prim.Native.Nat.{ℕ, _+_, _*_, _/_, _≤_, _<_}
-use native.Mathlib.Numerals.{add-one}
 use native.Mathlib.Omega.{arith}
 use mathlib.Core.List.{List}
 use lib.ListN.{length, getD, set, take}
-use lib.Seq.{length-take-le, take-suc}
+use lib.Seq.{length-take-le}
 use Rattle.pairs.specs.declared.Pair.{Pair}
 use Rattle.pairs.specs.Pairs.{noPair, pairsOf, laidOver, thatFit}
-use Rattle.pairs.proofs.FlatLists.{length-pairsOf, pair-pairsOf}
+use Rattle.pairs.proofs.FlatLists.{length-pairsOf, pair-pairsOf, take-next}
 use Rattle.pairs.proofs.Counts.{copied, take-fitting}
 use Rattle.pairs.proofs.LaidOver.{length-laidOver, laidOver-next}
 
@@ -19,6 +18,10 @@ wordPair words i = record { gap = getD words (2 * i) 0; size = getD words (2 * i
 -- the lent list when the first i pairs of the words are packed
 abbrev pub packed : List ℕ → List Pair → ℕ → List Pair
 packed words old i = laidOver (take i (pairsOf words)) old
+
+-- what `pack` says of the list
+abbrev pub Packs : List ℕ → List Pair → List Pair → Type 0
+Packs words old new = new ≡ laidOver (thatFit (length old) (pairsOf words)) old
 
 module _ (words : List ℕ) (old : List Pair) where
   front : (i : ℕ) → i ≤ length words / 2 → length (take i (pairsOf words)) ≡ i
@@ -31,9 +34,9 @@ module _ (words : List ℕ) (old : List Pair) where
   packed-next i h k =
       ap (set (packed words old i) i) (sym (pair-pairsOf words i h))
       ∙ laidOver-next (take i (pairsOf words)) old (getD (pairsOf words) i noPair) i (front i (omega arith)) k
-      ∙ ap (λ (l : List Pair). laidOver l old) (sym (ap (λ (n : ℕ). take n (pairsOf words)) (add-one i) ∙ take-suc (pairsOf words) i noPair (rw length-pairsOf h)))
+      ∙ ap (λ (l : List Pair). laidOver l old) (sym (take-next (pairsOf words) i (rw length-pairsOf h)))
 
-  pub packed-done : (i : ℕ) → i ≡ copied (length words / 2) (length old) → packed words old i ≡ laidOver (thatFit (length old) (pairsOf words)) old
+  pub packed-done : (i : ℕ) → i ≡ copied (length words / 2) (length old) → Packs words old (packed words old i)
   packed-done i e =
       ap (packed words old) (e ∙ ap (λ (n : ℕ). copied n (length old)) (sym (length-pairsOf words)))
       ∙ ap (λ (l : List Pair). laidOver l old) (take-fitting (length old) (pairsOf words))

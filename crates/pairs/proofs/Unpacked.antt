@@ -1,14 +1,13 @@
 -- Laws of unpacking: what the lent words hold while i pairs are laid, and when all are. Assumes nothing.
 use mathlib.Core.Path.{_≡_, sym, ap, _∙_}
 use Prim.Native.Nat.{ℕ, _+_, _*_, _/_, _≤_, _<_}
-use native.Mathlib.Numerals.{add-one}
 use native.Mathlib.Omega.{arith}
 use mathlib.Core.List.{List}
 use lib.ListN.{length, getD, set, take}
-use lib.Seq.{length-take-le, take-suc, take-at}
+use lib.Seq.{length-take-le, take-at}
 use Rattle.pairs.specs.declared.Pair.{Pair}
 use Rattle.pairs.specs.Pairs.{noPair, flatten, pairsOf, laidOver, thatFit}
-use Rattle.pairs.proofs.FlatLists.{length-flatten, pairsOf-flatten}
+use Rattle.pairs.proofs.FlatLists.{length-flatten, length-front, pairsOf-flatten, take-next}
 use Rattle.pairs.proofs.Counts.{copied, take-fitting, count-fitting}
 use Rattle.pairs.proofs.LaidOver.{length-laidOver, laidOver-pair}
 
@@ -23,7 +22,7 @@ pub laid-next : (ps : List Pair) (old : List ℕ) (i : ℕ) → i < length ps �
     → set (set (laid ps old i) (2 * i) (getD ps i noPair .gap)) (2 * i + 1) (getD ps i noPair .size) ≡ laid ps old (i + 1)
 laid-next ps old i h k =
     laidOver-pair (take i ps) old (getD ps i noPair) i (length-take-le i ps (omega arith)) k
-    ∙ ap (λ (l : List Pair). laidOver (flatten l) old) (sym (ap (λ (n : ℕ). take n ps) (add-one i) ∙ take-suc ps i noPair h))
+    ∙ ap (λ (l : List Pair). laidOver (flatten l) old) (sym (take-next ps i h))
 
 -- what `unpack` says of its result and of the lent words
 abbrev pub Unpacks : List Pair → List ℕ → ℕ → List ℕ → Type 0
@@ -44,7 +43,7 @@ module _ (ps : List Pair) (old : List ℕ) (used : ℕ) (new : List ℕ) (said :
   used-words = ap (take used) (said .1) ∙ take-at (flatten fit) _ used (length-flatten fit ∙ sym (said .0))
 
   pub used-there : length (take used new) ≡ used
-  used-there = ap length used-words ∙ length-flatten fit ∙ sym (said .0)
+  used-there = length-front fit new used used-words (said .0)
 
   pub used-pairs : pairsOf (take used new) ≡ fit
   used-pairs = ap pairsOf used-words ∙ pairsOf-flatten fit

@@ -27,7 +27,7 @@ pairsOf [] = []
 pairsOf (g ∷ []) = []
 pairsOf (g ∷ s ∷ l) = record { gap = g; size = s } ∷ pairsOf l
 
--- the pairs that go to where there is room for so many: all of them or, where they are too many, none
+-- the pairs that go to where there is room for so many: all of them or, where they are too many (12, 20), none
 abbrev pub thatFit : ℕ → List Pair → List Pair
 thatFit room ps = cond (leb (length ps) room) ps []
 

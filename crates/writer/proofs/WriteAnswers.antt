@@ -1,15 +1,15 @@
 -- What writing answers and leaves behind, by cases. Assumes nothing.
-use mathlib.Core.Path.{_≡_, refl, _∙_}
+use mathlib.Core.Path.{_≡_, _∙_}
 use Prim.Native.Nat.{ℕ, _*_, _≤_, _<_, zero-le}
 use native.Mathlib.Omega.{arith}
-use mathlib.Core.Bool.{Bool, true, false, cond, and-false}
+use mathlib.Core.Bool.{true, false, and-false}
 use mathlib.Core.List.{List, [], _∷_}
-use lib.Dec.{leb}
 use lib.ListN.{length, length-append}
 use lib.Seq.{sets}
 use borrow.Author.Tests.{lt-ltb, le-ltb}
 use Rattle.pairs.specs.declared.Pair.{Pair}
 use Rattle.pairs.specs.Pairs.{countIn, thatFit}
+use Rattle.pairs.proofs.Counts.{fit-cases}
 use Rattle.cyclefile.specs.File.{bytesOf, Before, none, behind, pairsBytes, cycleBytes, writeNumber, Writes}
 use Rattle.cyclefile.proofs.Fields.{pairBytes-small, length-cycleBytes}
 use Rattle.writer.proofs.StoredBytes.{count-and-pairs}
@@ -40,12 +40,9 @@ pub file-small : (ps : List Pair) → length ps ≤ 512 → length (cycleBytes p
 file-small ps h = omega (arith, length-cycleBytes ps, pairsBytes-small none ps)
 
 -- more than 512 pairs are not written, and neither are none: 12
-fit-by : (ps : List Pair) (file : List ℕ) (old r : ℕ) (file′ : List ℕ) (new : ℕ) (t : Bool) → leb (length ps) 512 ≡ t → Writes (cond t ps []) file old r file′ new → Writes ps file old r file′ new
-unfolding writeNumber
-fit-by ps file old r file′ new true e w = w
-fit-by ps file old r file′ new false e w =
-    let too-many : countIn (length ps) ≡ false = rw (e, and-false) in
-    record { answer-is = w .answer-is ∙ simp too-many; bytes-are = w .bytes-are ∙ simp too-many; written-is = w .written-is ∙ simp too-many }
-
 pub fit-writes : (ps : List Pair) (file : List ℕ) (old r : ℕ) (file′ : List ℕ) (new : ℕ) → Writes (thatFit 512 ps) file old r file′ new → Writes ps file old r file′ new
-fit-writes ps file old r file′ new w = fit-by ps file old r file′ new (leb (length ps) 512) refl w
+unfolding writeNumber
+fit-writes ps file old r file′ new =
+    fit-cases 512 ps (λ (qs : List Pair). Writes qs file old r file′ new → Writes ps file old r file′ new) (λ e w. w) (λ e w.
+    let too-many : countIn (length ps) ≡ false = rw (e, and-false) in
+    record { answer-is = w .answer-is ∙ simp too-many; bytes-are = w .bytes-are ∙ simp too-many; written-is = w .written-is ∙ simp too-many })

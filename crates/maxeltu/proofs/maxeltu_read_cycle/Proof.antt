@@ -48,8 +48,7 @@ use Rattle.pairs.proofs.pack.Symbol.{name as #pairs·pack}
 use Rattle.pairs.proofs.pack.Met as pack-thm
 use Rattle.cyclefile.specs.File.{readCycle, Reads}
 use Rattle.maxeltu.specs.declared.FileRead.{FileRead}
-use Rattle.maxeltu.specs.InnerPromises.{WordsRead}
-use Rattle.maxeltu.proofs.ListReadings.{used-there, packed-read}
+use Rattle.maxeltu.proofs.ListReadings.{WordsRead, used-there, packed-read}
 use Rattle.maxeltu.proofs.FileRead as R
 use Rattle.maxeltu.proofs.FileRead.Laws as R′
 use Rattle.maxeltu.proofs.read_words as read-words
@@ -117,7 +116,7 @@ module _ {M : Type 1} (𝓤 : URA M) (H : Heap 𝓤) (A : Atoms 𝓤) (W : Given
       move ! (2 ∷ 0 ∷ []) $ fjoin ! $ move ! (1 ∷ 0 ∷ []) $ join ! $ frame ! $ done !
 
   abbrev Said : FileRead → List ℕ → ℕ → Type 0
-  Said f ws m = WordsRead (readCycle (min (length ys) (length zeros / 2)) ts) f ws n m
+  Said f ws m = WordsRead (min (length ys) (length zeros / 2)) ts zeros n f ws m
 
   exits : (r : ℕ) → r < 2 ^ 32 → (zs : List Pair) (m : ℕ) → Reads (readCycle (length ys) ts) ys n r zs m → length zs ≡ length ys
       → ent 𝓤 (⋆ 𝓤 H A (‵ (finally P.the-row γ₁ zs) ∷ ‵ (flft κ₁ q₁) ∷ (‵ (flft κ₂ q₂) ⊛ ‵ ftrue) ∷ ‵ (flft κ q) ∷ ‵ (fres γ₂ (u32 .coded .code m)) ∷ ‵ Sl ∷ [])) (Post (vint w32 r))
@@ -161,7 +160,7 @@ module _ {M : Type 1} (𝓤 : URA M) (H : Heap 𝓤) (A : Atoms 𝓤) (W : Given
         assigns ! (of-opd ! (load ! (from ! (fld ! refl (stop !))) (look-in ! 27 (sub ! 0 refl (whole !))))) (from ! (stop !)) (init ! 25 refl (tt, record { fits = LL.owed R.the-type R′.the-laws f (v ∷ []) is .0 .1 })) $
         assigns ! (addr ! (from ! (stop !))) (from ! (stop !)) (init ! 13 refl (tt, tt)) $
         assigns ! (agg ! (and-then ! (load ! (from ! (stop !)) (look ! 13 refl)) (and-then ! (load ! (from ! (stop !)) (look ! 25 refl)) (no-more !)))) (from ! (stop !)) (init ! 11 refl (tt, (tt, (record { fits = LL.owed R.the-type R′.the-laws f (v ∷ []) is .0 .1 }, tt)))) $
-        rewrite ! 11 (λ (k : ℕ). ‵ (fat fullShare (sliceTy (tyRef erased imm (tyInt w16))) l₁₃ 0 (sliceVal (l₄, 0) k))) (sym (used-there (readCycle (min (length ys) (length zeros / 2)) ts) f (ls .1 .1 .0) n (ls .1 .1 .1 .0) said)) refl $
+        rewrite ! 11 (λ (k : ℕ). ‵ (fat fullShare (sliceTy (tyRef erased imm (tyInt w16))) l₁₃ 0 (sliceVal (l₄, 0) k))) (sym (used-there (min (length ys) (length zeros / 2)) ts zeros n f (ls .1 .1 .0) (ls .1 .1 .1 .0) said)) refl $
         assigns ! (addr ! (from ! (fld ! refl (hop ! (look-in ! 32 (sub ! 0 refl (whole !))) (stop !))))) (from ! (stop !)) (init ! 9 refl (tt, tt)) $
         assigns ! (agg ! (and-then ! (load ! (from ! (stop !)) (look ! 9 refl)) (and-then ! (load ! (from ! (fld ! refl (stop !))) (look-in ! 32 (sub ! 1 refl (whole !)))) (no-more !)))) (from ! (stop !)) (init ! 7 refl (tt, (tt, (record { fits = room₁ .0 }, tt)))) $
         move ! (0 ∷ 4 ∷ 5 ∷ []) $ calls-pack 𝓤 H A W mem run κ₁ q₁ d l₄ fm (ls .1 .1 .0) (f .used) (front-room (ls .1 .1 .0) (f .used) (same ∙ length-zeros)) known-pack (λ α′ γ₄. and-then ! (load ! (from ! (stop !)) (look ! 10 refl)) (and-then ! (load ! (from ! (stop !)) (look ! 6 refl)) (no-more !))) (λ u zs packs l unit-is.
