@@ -1,9 +1,10 @@
 // The two families of schedules for k reports, with their supply figures (document 01, "Schedules from document 000"). Refusals 3 to 6.
 use numbers::larger;
 use numbers::smaller;
-use plan::Counted;
 use plan::Kind;
 use plan::Plan;
+use plan::moments;
+use plan::moments::Contents;
 use spec::BothRates;
 use spec::Rates;
 use spec::Spec;
@@ -85,10 +86,13 @@ fn held_before(plan: Plan, x: u32) -> u64
     requires { ⌜ proper plan ≡ true ⌝ }
     ensures { λ v. ⌜ v ≡ stretch (run plan) 0 x ⌝ }
 {
-    let held = plan::records_before(plan, x);
+    let held = moments::first_minutes(plan, x);
     match held {
-        Counted::Count(records) => records,
-        Counted::Refused(_) => 0,
+        Contents::Held {
+            reports: _,
+            records,
+        } => records,
+        Contents::Refused(_) => 0,
     }
 }
 

@@ -1,6 +1,5 @@
 -- The cases of `reportOf`, of `countOf` and of the records of the first n reports, by what the code has found.
 use Prim.Native.Nat.{ℕ, _*_, _/_}
-use native.Mathlib.Omega.{arith}
 use mathlib.Core.Path.{_≡_}
 use mathlib.Core.Bool.{true, false}
 use Rattle.schedule.specs.Schedules.{sum, minute}
@@ -36,15 +35,6 @@ module _ (p : Plan) (n : ℕ) where
   pub counted : proper p ≡ true → {x : ℕ} → x ≡ n → Count x ≡ countOf p n
   unfolding countOf
   counted ok e = rw (ok, e)
-
-  -- what the caller of a count has of it
-  pub count-told : proper p ≡ true → {x : ℕ} → countOf p n ≡ Count x → x ≡ n
-  unfolding countOf
-  count-told ok e = let told : Count n ≡ Count _ = rw ok at e in cc
-
-  pub count-never : proper p ≡ true → {r : ℕ} → countOf p n ≡ NotCounted r → ⊥
-  unfolding countOf
-  count-never ok e = let told : Count n ≡ NotCounted _ = rw ok at e in let z : _≡_ {A = ℕ} 0 1 = cc in omega arith
 
 module _ (p : Plan) (n : ℕ) {x : ℕ} where
   pub well-held : p .kind ≡ WellFormed → x ≡ sum (wellSize (p .count) (p .total)) n → x ≡ sum (run p .size) n

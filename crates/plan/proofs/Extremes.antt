@@ -6,10 +6,10 @@ use native.Mathlib.Omega.{arith}
 use native.Mathlib.Nat.{zero-add, le-trans}
 use mathlib.Core.Path.{_≡_}
 use mathlib.Core.Logic.{⊎-elim}
-use Rattle.schedule.specs.Schedules.{Schedule, sum, minute, stretch, reportsBefore}
+use Rattle.schedule.specs.Schedules.{Schedule, sum, minute, stretch}
 use Rattle.numbers.proofs.Cases.{lt-cases}
 use Rattle.schedule.proofs.Sums.{sum-none, sum-add, sum-rounds, block, block-part}
-use Rattle.schedule.proofs.Before.{before-iff, before-minute, before-mono, minute-mono, minute-none, before-reach, stretch-before, first-minutes}
+use Rattle.schedule.proofs.Before.{reportsBefore, before-iff, before-minute, before-mono, minute-mono, minute-none, before-reach, stretch-before, first-minutes}
 use Rattle.schedule.proofs.Repeats.{stretch-again}
 
 module _ (s : Schedule) (later : (i : ℕ) → 1 ≤ s .gap i)

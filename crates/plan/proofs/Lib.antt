@@ -7,3 +7,5 @@ pub mod Extremes
 pub mod Runs
 pub mod PlanCounts
 pub mod Answers
+pub mod PlanMoments
+pub mod ThereAndBack

@@ -8,9 +8,9 @@ use mathlib.Core.Path.{_≡_, refl, sym, _∙_}
 use mathlib.Core.Bool.{true}
 use borrow.Author.Tests.{lt-leb, eqb-true}
 use Rattle.numbers.specs.Numbers.{ceil}
-use Rattle.schedule.specs.Schedules.{sum, minute, stretch, reportsBefore}
+use Rattle.schedule.specs.Schedules.{sum, minute, stretch}
 use Rattle.schedule.proofs.Sums.{sum-none, sum-more, sum-same, sum-block, sum-add, sum-again, block, block-most}
-use Rattle.schedule.proofs.Before.{before-le, stretch-before, stretch-longer}
+use Rattle.schedule.proofs.Before.{reportsBefore, before-le, stretch-before, stretch-longer}
 use Rattle.schedule.proofs.Repeats.{stretch-round, stretch-first, stretch-whole}
 use Rattle.plan.specs.declared.Kind.{Kind}
 use Rattle.plan.specs.declared.Kind.the-variants.{WellFormed, Even}

@@ -1,11 +1,14 @@
-// Plans: k reports in a period of so many minutes with so many records, of one of two kinds; whether a plan is proper, the minute
-// and size of each report of its endless run, and how many reports and records lie before a minute, in constant time (document 01,
-// "Schedules from document 000"). Refusal 11. How a plan is found is left to the crates above.
+// Plans: k reports in a period of so many minutes with so many records, of one of two kinds; whether a plan is proper, and the minute
+// and size of each report of its endless run, in constant time (document 01, "Schedules from document 000"); and back from minutes to
+// reports (`moments`). Refusals 11 and 23. How a plan is found is left to the crates above.
+pub mod moments;
+
 use spec::refusal;
 ghost use mathlib.Core.Path.{_≡_};
 ghost use mathlib.Core.Bool.{true};
 ghost use Prim.Native.Nat.{_+_, _-_, _*_, _≤_, _<_, _^_};
-ghost use Rattle.schedule.specs.Schedules.{sum, stretch, reportsBefore};
+ghost use Rattle.schedule.specs.Schedules.{sum};
+ghost use Rattle.schedule.specs.Moments.{reportsFrom};
 ghost use Rattle.plan.specs.Plans.{proper, run, wellGap, wellSize, evenFirst, evenSize};
 ghost use Rattle.plan.specs.Reports.{reportOf, countOf};
 
@@ -65,7 +68,7 @@ pub fn is_proper(p: Plan) -> bool
 
 // The minute of report i of the well-formed kind: whole periods, and the gaps before it in its own, of which the last are longer.
 fn well_minute(k: u64, period: u64, i: u64) -> u64
-    requires { ⌜ (1 ≤ k) × (k ≤ 20160) × (period ≤ 20160 * k) × (i < 2 ^ 32) ⌝ }
+    requires { ⌜ (1 ≤ k) × (k ≤ 20160) × (period ≤ 20160 * k) × (i ≤ 2 ^ 32) ⌝ }
     ensures { λ r. ⌜ r ≡ sum (wellGap k period) i ⌝ }
 {
     let j = i % k;
@@ -160,7 +163,7 @@ fn held_by_first(p: Plan, n: u64) -> u64
 // quotients, one by the shorter gap and one by the longer. The even kind has no longer gap.
 fn count_before(p: Plan, m: u64) -> u64
     requires { ⌜ proper p ≡ true ⌝ }
-    ensures { λ r. ⌜ (r ≡ reportsBefore (run p) m) × (r ≤ m) ⌝ }
+    ensures { λ r. ⌜ (r ≡ reportsFrom (run p) 0 m) × (r ≤ m) ⌝ }
 {
     let k = p.count as u64;
     let period = p.period as u64;
@@ -172,16 +175,6 @@ fn count_before(p: Plan, m: u64) -> u64
     m / period * k + numbers::smaller(by_shorter, by_longer)
 }
 
-// How many reports lie before minute m, or refusal 11.
-pub fn reports_before(p: Plan, m: u32) -> Counted
-    ensures { λ r. ⌜ r ≡ countOf p (reportsBefore (run p) m) ⌝ }
-{
-    if !is_proper(p) {
-        return Counted::Refused(refusal::NOT_PROPER);
-    }
-    Counted::Count(count_before(p, m as u64))
-}
-
 // How many records the first n reports hold, or refusal 11.
 pub fn records_of_first(p: Plan, n: u32) -> Counted
     ensures { λ r. ⌜ r ≡ countOf p (sum (run p .size) n) ⌝ }
@@ -190,14 +183,4 @@ pub fn records_of_first(p: Plan, n: u32) -> Counted
         return Counted::Refused(refusal::NOT_PROPER);
     }
     Counted::Count(held_by_first(p, n as u64))
-}
-
-// How many records lie before minute m, what minutes 0 to m - 1 hold, or refusal 11.
-pub fn records_before(p: Plan, m: u32) -> Counted
-    ensures { λ r. ⌜ r ≡ countOf p (stretch (run p) 0 m) ⌝ }
-{
-    if !is_proper(p) {
-        return Counted::Refused(refusal::NOT_PROPER);
-    }
-    Counted::Count(held_by_first(p, count_before(p, m as u64)))
 }

@@ -4,15 +4,19 @@ use Prim.Native.Nat.{ℕ, zero, suc, _+_, _-_, _≤_, _<_}
 use native.Mathlib.Omega.{arith}
 use native.Mathlib.Nat.{add-assoc, add-zero, zero-add, sub-zero}
 use native.Mathlib.Numerals.{add-one}
-use mathlib.Core.Path.{_≡_, refl, sym}
+use mathlib.Core.Path.{_≡_, refl}
 use mathlib.Core.Logic.{_↔_, ⊎-elim}
 use mathlib.Core.Bool.{Bool, true, false, cond}
 use lib.Dec.{ltb}
 use borrow.Author.Tests.{ltb-true, ltb-false}
 use Rattle.numbers.proofs.Cases.{lt-cases}
-use Rattle.schedule.specs.Schedules.{Schedule, sum, minute, stretch, reportsBefore}
-use Rattle.schedule.proofs.Sums.{sum-none, sum-more, sum-add, sum-block, block, block-none, block-add, block-one, block-part}
+use Rattle.schedule.specs.Schedules.{Schedule, sum, minute, stretch}
+use Rattle.schedule.proofs.Sums.{sum-none, sum-more, sum-block, block, block-add, block-one, block-part}
 use Rattle.schedule.proofs.Stretches.{stretch-block}
+
+-- how many reports lie before minute m, counted among the first m: where no gap is 0, report i is at minute i or later
+unfoldable pub reportsBefore : Schedule → ℕ → ℕ
+reportsBefore s m = sum (λ i. cond (ltb (minute s i) m) 1 0) m
 
 module _ (s : Schedule) where
   pub minute-none : minute s 0 ≡ 0
@@ -110,11 +114,6 @@ module _ (s : Schedule) where
     before-mono t t′ h =
         ⊎-elim (λ q. absurd (let r = before-iff t (reportsBefore s t′) .1 q in omega (arith, before-reach t′))) (λ q. q) (lt-cases (reportsBefore s t′) (reportsBefore s t))
 
-    pub stretch-none : (a : ℕ) → stretch s a 0 ≡ 0
-    stretch-none a =
-        let z : reportsBefore s (a + 0) - reportsBefore s a ≡ 0 = rw add-zero (omega arith) in
-        rw (stretch-before a 0, z, block-none)
-
     pub stretch-add : (a v w : ℕ) → stretch s a (v + w) ≡ stretch s a v + stretch s (a + v) w
     stretch-add a v w =
         let p : reportsBefore s a ≤ reportsBefore s (a + v) = before-mono a (a + v) (omega arith) in
@@ -143,25 +142,11 @@ module _ (s : Schedule) where
         (λ q. omega arith)
         (lt-cases (j + 1) (reportsBefore s (minute s j + 1)))
 
-    -- the last report at or before minute m, and the next
-    pub last-report : (m : ℕ) → (minute s (reportsBefore s (m + 1) - 1) ≤ m) × (m < minute s (reportsBefore s (m + 1)))
-    last-report m =
-        let some = before-iff (m + 1) 0 .0 (omega (arith, minute-none)) in
-        let last = before-iff (m + 1) (reportsBefore s (m + 1) - 1) .1 (omega arith) in
-        (omega arith, omega (arith, before-reach (m + 1)))
-
-    -- what the first m minutes hold is what the reports before minute m hold, and so of the minutes from a on
+    -- what the first m minutes hold is what the reports before minute m hold
     pub first-minutes : (m : ℕ) → stretch s 0 m ≡ sum (s .size) (reportsBefore s m)
     first-minutes m =
         let z : reportsBefore s 0 ≡ 0 = omega (arith, before-le 0) in
         rw (stretch-before 0 m, z, zero-add, sub-zero, sum-block (s .size) (reportsBefore s m))
-
-    pub records-between : (a w : ℕ) → sum (s .size) (reportsBefore s a) + stretch s a w ≡ sum (s .size) (reportsBefore s (a + w))
-    records-between a w =
-        let x = reportsBefore s a in
-        let y = reportsBefore s (a + w) in
-        let e : x + (y - x) ≡ y = omega (arith, before-mono a (a + w) (omega arith)) in
-        rw (stretch-before a w) (rw e at (sym (sum-add (s .size) x (y - x))))
 
     -- the minutes from a report on hold that report, and what the minutes after it hold
     pub stretch-after : (j w : ℕ) → stretch s (minute s j) (w + 1) ≡ s .size j + stretch s (minute s j + 1) w

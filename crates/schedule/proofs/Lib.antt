@@ -1,5 +1,6 @@
 pub mod Sums
 pub mod Stretches
 pub mod Before
+pub mod Moments
 pub mod StretchSum
 pub mod Repeats

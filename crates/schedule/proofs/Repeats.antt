@@ -7,10 +7,10 @@ use native.Mathlib.Numerals.{add-one}
 use mathlib.Core.Path.{_≡_, sym, _∙_, ap}
 use mathlib.Core.Logic.{_↔_, ⊎-elim}
 use Rattle.numbers.proofs.Cases.{lt-cases}
-use Rattle.schedule.specs.Schedules.{Schedule, sum, minute, stretch, reportsBefore}
+use Rattle.schedule.specs.Schedules.{Schedule, sum, minute, stretch}
 use Rattle.schedule.proofs.Sums.{sum-again, sum-whole, block, block-none, block-more, block-round}
 use Rattle.schedule.proofs.Stretches.{stretch-block}
-use Rattle.schedule.proofs.Before.{minute-least, minute-rise, before-iff, before-le, stretch-before, stretch-add, fullest-at-report, thinnest-after-report}
+use Rattle.schedule.proofs.Before.{reportsBefore, minute-least, minute-rise, before-iff, before-le, stretch-before, stretch-add, fullest-at-report, thinnest-after-report}
 
 pub minute-again : (s : Schedule) (c : ℕ) → ((i : ℕ) → s .gap (i + c) ≡ s .gap i) → (i : ℕ) → minute s (i + c) ≡ minute s i + minute s c
 unfolding minute

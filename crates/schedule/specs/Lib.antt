@@ -1,2 +1,3 @@
 pub mod Schedules
+pub mod Moments
 pub mod Rules

@@ -39,7 +39,3 @@ inStretch a w t = leb a t && ltb t (a + w)
 -- what report i adds to the stretch of w minutes from a: its size where its minute is one of them
 unfoldable pub share : Schedule → ℕ → ℕ → ℕ → ℕ
 share s a w i = cond (inStretch a w (minute s i)) (s .size i) 0
-
--- how many reports lie before minute m, counted among the first m: where no gap is 0, report i is at minute i or later
-unfoldable pub reportsBefore : Schedule → ℕ → ℕ
-reportsBefore s m = sum (λ i. cond (ltb (minute s i) m) 1 0) m

@@ -20,7 +20,7 @@ pub const NO_COUNT: u32 = 8;
 
 pub const NOT_PASSED: u32 = 9;
 
-// The even plan; minute and size of a report.
+// The even plan; the reports of a plan.
 pub const NO_EVEN_PLAN: u32 = 10;
 
 pub const NOT_PROPER: u32 = 11;
@@ -49,3 +49,6 @@ pub const BYTES_OVER: u32 = 21;
 
 // An offer to a meter, beside GAP, SIZE and TOO_FULL.
 pub const NO_PLACE: u32 = 22;
+
+// What lies between two minutes of a plan.
+pub const BACKWARDS: u32 = 23;

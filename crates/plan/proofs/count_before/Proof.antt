@@ -2,12 +2,9 @@
 use native.Mathlib.Omega.{arith}
 use native.Mathlib.Nat.{mod-lt}
 use mathlib.Core.Path.{sym}
-use Rattle.schedule.proofs.Before.{before-le}
-use Rattle.plan.specs.Plans.{run}
-use Rattle.plan.proofs.Runs.{run-later}
 use Rattle.plan.proofs.Proper.{numbers}
 use Rattle.plan.proofs.Minutes.{withinBefore}
-use Rattle.plan.proofs.PlanCounts.{reports-closed}
+use Rattle.plan.proofs.PlanCounts.{reports-closed, reports-few}
 use borrow.Author.Needs.{needs}
 use Rattle.plan.proofs.count_before.Statement.{statement}
 use Rattle.plan.proofs.count_before.Tie as tie
@@ -51,7 +48,7 @@ div-result c = let n = numbers _ (c .before .before .before .before .pre) in ome
 mul-result : tie.Need-mul-result
 mul-result c =
     let start = c .before .before .before .before in
-    record { fits = omega (arith, reports-closed (start .args .p) (start .pre) (start .args .m), before-le (run (start .args .p)) (run-later (start .args .p) (start .pre)) (start .args .m)) }
+    record { fits = omega (arith, reports-closed (start .args .p) (start .pre) (start .args .m), reports-few (start .args .p) (start .pre) (start .args .m)) }
 
 smaller-requires : tie.Need-smaller-requires
 smaller-requires c κs = search needs
@@ -62,7 +59,7 @@ add-result c =
     let start = c .before .before .before .before .before in
     let closed = reports-closed _ (start .pre) (start .args .m) in
     rw (c .smaller .ensures, c .before .ceil-div2 .ensures, c .before .before .ceil-div .ensures)
-    (record { fits = omega (arith, closed, before-le (run (start .args .p)) (run-later (start .args .p) (start .pre)) (start .args .m)) })
+    (record { fits = omega (arith, closed, reports-few (start .args .p) (start .pre) (start .args .m)) })
 
 returns : tie.Need-returns
 unfolding withinBefore
@@ -70,7 +67,7 @@ returns c =
     let start = c .before .before .before .before .before in
     let closed = reports-closed _ (start .pre) (start .args .m) in
     rw (c .smaller .ensures, c .before .ceil-div2 .ensures, c .before .before .ceil-div .ensures)
-    (sym closed, omega (arith, closed, before-le (run (start .args .p)) (run-later (start .args .p) (start .pre)) (start .args .m)))
+    (sym closed, omega (arith, closed, reports-few (start .args .p) (start .pre) (start .args .m)))
 
 pub count-before-spec : {M : Type 1} → statement M
 count-before-spec =

@@ -14,7 +14,7 @@ record Small (k π i : ℕ) : Type 0 where
   gaps : i % k * (π / k) < 2 ^ 43
   longer : i % k < 20160
 
-small : (k π i : ℕ) → (1 ≤ k) × (k ≤ 20160) × (π ≤ 20160 * k) × (i < 2 ^ 32) → Small k π i
+small : (k π i : ℕ) → (1 ≤ k) × (k ≤ 20160) × (π ≤ 20160 * k) × (i ≤ 2 ^ 32) → Small k π i
 small k π i h =
     let j : i % k < k = mod-lt i (h .0) in
     record {
