@@ -24,9 +24,9 @@
  *    promise it, so do not rely on it.)
  *  - The length of a list or of bytes that is handed in is a size_t, as C counts
  *    them, and any length may be handed in. Every number that is handed out is
- *    a uint32_t (a minute a uint64_t), also the count of pairs that were read
- *    and the length of a file that was written: these are at most 512 and 2562,
- *    and callers have one type for all of them.
+ *    a uint32_t (a minute, and the records between two, a uint64_t), also the
+ *    count of pairs that were read and the length of a file that was written:
+ *    these are at most 512 and 2562, and callers have one type for all of them.
  *  - The places behind two pointers of one call must not overlap, unless the
  *    call only reads both of them.
  *  - No call keeps a pointer, allocates, prints, or holds state between calls
@@ -94,7 +94,10 @@ enum maxeltu_refusal {
     MAXELTU_BYTES_OVER = 21,      /* bytes follow the last pair, and all pairs are right: write to the carrier */
 
     /* An offer to a meter. */
-    MAXELTU_NO_PLACE = 22         /* 1,024 accepted reports lie in those R minutes already: the meter cannot hold more */
+    MAXELTU_NO_PLACE = 22,        /* 1,024 accepted reports lie in those R minutes already: the meter cannot hold more */
+
+    /* What lies between two minutes of a plan. */
+    MAXELTU_BACKWARDS = 23        /* the end is before the start */
 };
 
 /* Limits. Each value of a specification is at least 1 and at most: */
@@ -111,7 +114,7 @@ enum maxeltu_limit {
     MAXELTU_METER_PLACES = 1024   /* reports that a meter can hold */
 };
 
-/* The kinds of a plan, for maxeltu_report. */
+/* The kinds of a plan, for the calls that take one. */
 enum maxeltu_kind {
     MAXELTU_WELL_FORMED = 0,      /* what maxeltu_min_demand, _max_supply and _test hand back */
     MAXELTU_EVEN = 1              /* what maxeltu_even_plan hands back */
@@ -258,6 +261,42 @@ uint32_t maxeltu_even_plan(const uint8_t *spec, size_t spec_len,
 uint32_t maxeltu_report(uint32_t kind, uint32_t k, uint32_t period,
                         uint32_t total, uint32_t i,
                         uint64_t *minute, uint32_t *size);
+
+/*
+ * From a minute back to the report. A plan is handed in as for maxeltu_report;
+ * any minute may be asked for, and the answer takes a few divisions, however
+ * many reports lie before it.
+ *
+ * maxeltu_last_report: the last report at or before the minute, the greatest
+ * number whose minute is at most this one. (Report 0 is at minute 0, so there
+ * always is one.)
+ * maxeltu_nearest_report: the report whose minute is nearest, the earlier of two
+ * that are equally near. It may lie after the minute, and past minute 2^32 - 1.
+ * The minute that maxeltu_report hands back for report i, where it is below
+ * 2^32, gives i again in both.
+ *
+ * Answer 0; 11 where the plan is not proper.
+ * Write *number, which is never above the minute.
+ */
+uint32_t maxeltu_last_report(uint32_t kind, uint32_t k, uint32_t period,
+                             uint32_t total, uint32_t minute,
+                             uint32_t *number);
+uint32_t maxeltu_nearest_report(uint32_t kind, uint32_t k, uint32_t period,
+                                uint32_t total, uint32_t minute,
+                                uint32_t *number);
+
+/*
+ * How many reports of a plan, and how many records, lie from minute a up to but
+ * not including minute b. A plan is handed in as for maxeltu_report. From a to b
+ * and from b to c add up to from a to c.
+ *
+ * Answers 0; 11 where the plan is not proper; 23 where b is before a (where they
+ * are equal, both counts are 0).
+ * Writes *reports and *records.
+ */
+uint32_t maxeltu_between(uint32_t kind, uint32_t k, uint32_t period,
+                         uint32_t total, uint32_t a, uint32_t b,
+                         uint32_t *reports, uint64_t *records);
 
 /*
  * Checks a cycle of `count` pairs against the specification, over its endless

@@ -7,6 +7,10 @@ use lib.Dec.{eqb}
 use lib.ListN.{getD}
 use Rattle.plan.specs.declared.Reported.{Reported}
 use Rattle.plan.specs.declared.Reported.the-variants.{At, Refused as NotReported}
+use Rattle.plan.specs.declared.moments.Found.{Found as ReportFound}
+use Rattle.plan.specs.declared.moments.Found.the-variants.{Number, Refused as NotFound}
+use Rattle.plan.specs.declared.moments.Contents.{Contents}
+use Rattle.plan.specs.declared.moments.Contents.the-variants.{Held, Refused as NotCounted}
 use Rattle.plan.specs.Plans.{planNumbers}
 use Rattle.consistency.specs.declared.Condition.{Condition}
 use Rattle.consistency.specs.declared.Condition.the-variants.{BoundsFitRates, FewestReportsFitBudget, EnoughReportsForDemand, SupplyCoversDemand}
@@ -68,6 +72,16 @@ evenAnswer (Refused n) = refusal n
 abbrev pub reportAnswer : Reported → Answer
 reportAnswer (At m d) = yields (m ∷ d ∷ [])
 reportAnswer (NotReported n) = refusal n
+
+-- the last or the nearest report: its number; or 11 (document 02, Req 05)
+abbrev pub numberAnswer : ReportFound → Answer
+numberAnswer (Number i) = yields (i ∷ [])
+numberAnswer (NotFound n) = refusal n
+
+-- what lies between two minutes: reports, records; or 11, 23
+abbrev pub contentsAnswer : Contents → Answer
+contentsAnswer (Held reports records) = yields (reports ∷ records ∷ [])
+contentsAnswer (NotCounted n) = refusal n
 
 -- What a lent place holds after a call: value i of the answer where the answer's number is `when`, else what it held.
 unfoldable pub heldAfter : (when i : ℕ) → Answer → ℕ → ℕ

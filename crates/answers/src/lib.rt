@@ -6,9 +6,11 @@ use even::EvenPlan;
 use families::Scheduled;
 use feasibility::Tested;
 use plan::Reported;
+use plan::moments::Contents;
+use plan::moments::Found;
 use spec::refusal;
 ghost use mathlib.Core.Path.{_≡_};
-ghost use Rattle.answers.specs.Answers.{conditionNumber, consistencyAnswer, scheduledAnswer, testedAnswer, evenAnswer, reportAnswer, heldAfter};
+ghost use Rattle.answers.specs.Answers.{conditionNumber, consistencyAnswer, scheduledAnswer, testedAnswer, evenAnswer, reportAnswer, numberAnswer, contentsAnswer, heldAfter};
 
 pub fn condition_number(c: Condition) -> u32
     ensures { λ r. ⌜ r ≡ conditionNumber c ⌝ }
@@ -114,5 +116,35 @@ pub fn report_answer(found: Reported, minute: &mut u64, size: &mut u32) -> u32
             0
         }
         Reported::Refused(n) => n,
+    }
+}
+
+pub fn number_answer(found: Found, number: &mut u32) -> u32
+    ensures { λ r. ⌜ (r ≡ numberAnswer found .number) × (now (number .exit) ≡ heldAfter 0 0 (numberAnswer found) (now (number .entry))) ⌝ }
+{
+    match found {
+        Found::Number(i) => {
+            *number = i;
+            0
+        }
+        Found::Refused(n) => n,
+    }
+}
+
+pub fn contents_answer(found: Contents, reports: &mut u32, records: &mut u64) -> u32
+    ensures { λ r. ⌜ (r ≡ contentsAnswer found .number)
+        × (now (reports .exit) ≡ heldAfter 0 0 (contentsAnswer found) (now (reports .entry)))
+        × (now (records .exit) ≡ heldAfter 0 1 (contentsAnswer found) (now (records .entry))) ⌝ }
+{
+    match found {
+        Contents::Held {
+            reports: n,
+            records: d,
+        } => {
+            *reports = n;
+            *records = d;
+            0
+        }
+        Contents::Refused(n) => n,
     }
 }

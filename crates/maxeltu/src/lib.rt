@@ -8,6 +8,7 @@ use meter::Meter;
 use pairs::Pair;
 use plan::Kind;
 use plan::Plan;
+use plan::moments;
 use spec::SpecRead;
 use spec::refusal;
 ghost use mathlib.Core.Path.{_≡_};
@@ -21,8 +22,8 @@ ghost use Rattle.families.specs.declared.Family.the-variants.{MinimumDemand, Ma
 ghost use Rattle.meter.specs.Ring.{fresh, stepped, toldOr};
 ghost use Rattle.answers.specs.Answers.{heldAfter};
 ghost use Rattle.maxeltu.specs.Verdict.{verdictOf};
-ghost use Rattle.maxeltu.specs.InnerPromises.{fileRead, countAfter};
-ghost use Rattle.maxeltu.specs.Calls.{consistencyCall, scheduleCall, testCall, evenCall, reportCall};
+ghost use Rattle.maxeltu.specs.InnerPromises.{planNamed, fileRead, countAfter};
+ghost use Rattle.maxeltu.specs.Calls.{consistencyCall, scheduleCall, testCall, evenCall, reportCall, lastCall, nearestCall, betweenCall};
 
 // The loader's call: 0 exactly when both files are read and the cycle is passed, or the first number met, the specification's first.
 #[no_mangle]
@@ -152,7 +153,36 @@ pub extern "C" fn maxeltu_even_plan(
     answers::even_answer(even::even_plan(s), k, period, total)
 }
 
-// Minute and size of report i of a plan: kind 0 is well-formed, 1 even.
+// The plan that four numbers name, if the first names a kind.
+enum Named {
+    Plan(Plan),
+    NoKind,
+}
+
+// Kind 0 is well-formed, 1 even.
+fn plan_named(kind: u32, k: u32, period: u32, total: u32) -> Named
+    ensures { λ r. ⌜ r ≡ planNamed kind k period total ⌝ }
+{
+    if kind == 0 {
+        return Named::Plan(Plan {
+            kind: Kind::WellFormed,
+            count: k,
+            period,
+            total,
+        });
+    }
+    if kind == 1 {
+        return Named::Plan(Plan {
+            kind: Kind::Even,
+            count: k,
+            period,
+            total,
+        });
+    }
+    Named::NoKind
+}
+
+// Minute and size of report i of a plan.
 #[no_mangle]
 pub extern "C" fn maxeltu_report(
     kind: u32,
@@ -167,25 +197,70 @@ pub extern "C" fn maxeltu_report(
         × (now (minute .exit) ≡ heldAfter 0 0 (reportCall kind k period total i) (now (minute .entry)))
         × (now (size .exit) ≡ heldAfter 0 1 (reportCall kind k period total i) (now (size .entry))) ⌝ }
 {
-    if kind == 0 {
-        let p = Plan {
-            kind: Kind::WellFormed,
-            count: k,
-            period,
-            total,
-        };
-        return answers::report_answer(plan::report(p, i), minute, size);
-    }
-    if kind == 1 {
-        let p = Plan {
-            kind: Kind::Even,
-            count: k,
-            period,
-            total,
-        };
-        return answers::report_answer(plan::report(p, i), minute, size);
-    }
-    refusal::NOT_PROPER
+    let Named::Plan(p) = plan_named(kind, k, period, total) else {
+        return refusal::NOT_PROPER;
+    };
+    answers::report_answer(plan::report(p, i), minute, size)
+}
+
+// The last report of a plan at or before a minute.
+#[no_mangle]
+pub extern "C" fn maxeltu_last_report(
+    kind: u32,
+    k: u32,
+    period: u32,
+    total: u32,
+    minute: u32,
+    number: &mut u32,
+) -> u32
+    ensures { λ r. ⌜ (r ≡ lastCall kind k period total minute .number)
+        × (now (number .exit) ≡ heldAfter 0 0 (lastCall kind k period total minute) (now (number .entry))) ⌝ }
+{
+    let Named::Plan(p) = plan_named(kind, k, period, total) else {
+        return refusal::NOT_PROPER;
+    };
+    answers::number_answer(moments::last_report(p, minute), number)
+}
+
+// The report of a plan that is nearest to a minute, the earlier of two equally near.
+#[no_mangle]
+pub extern "C" fn maxeltu_nearest_report(
+    kind: u32,
+    k: u32,
+    period: u32,
+    total: u32,
+    minute: u32,
+    number: &mut u32,
+) -> u32
+    ensures { λ r. ⌜ (r ≡ nearestCall kind k period total minute .number)
+        × (now (number .exit) ≡ heldAfter 0 0 (nearestCall kind k period total minute) (now (number .entry))) ⌝ }
+{
+    let Named::Plan(p) = plan_named(kind, k, period, total) else {
+        return refusal::NOT_PROPER;
+    };
+    answers::number_answer(moments::nearest_report(p, minute), number)
+}
+
+// How many reports and records of a plan lie from minute a up to but not including b.
+#[no_mangle]
+pub extern "C" fn maxeltu_between(
+    kind: u32,
+    k: u32,
+    period: u32,
+    total: u32,
+    a: u32,
+    b: u32,
+    reports: &mut u32,
+    records: &mut u64,
+) -> u32
+    ensures { λ r. ⌜ (r ≡ betweenCall kind k period total a b .number)
+        × (now (reports .exit) ≡ heldAfter 0 0 (betweenCall kind k period total a b) (now (reports .entry)))
+        × (now (records .exit) ≡ heldAfter 0 1 (betweenCall kind k period total a b) (now (records .entry))) ⌝ }
+{
+    let Named::Plan(p) = plan_named(kind, k, period, total) else {
+        return refusal::NOT_PROPER;
+    };
+    answers::contents_answer(moments::between(p, a, b), reports, records)
 }
 
 // The number of a lent list of pairs against a specification's file. The list is unpacked once, into the one array that is held, and

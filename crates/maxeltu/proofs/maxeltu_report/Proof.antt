@@ -1,11 +1,28 @@
--- The number of the kind names it, or names none; then the places are those of the report's answer.
+-- The first four numbers name a plan, or none; then the places are those of the report's answer.
 use mathlib.Core.Path.{refl}
-use borrow.Author.Tests.{eq-eqb, ne-eqb}
 use Rattle.maxeltu.specs.Calls.{reportCall}
+use Rattle.answers.specs.Answers.{reportAnswer}
+use Rattle.plan.specs.Reports.{reportOf}
 use Rattle.answers.proofs.Places.{after-refusal}
+use Rattle.maxeltu.proofs.GivenPlan.{of-named, of-none}
 use borrow.Author.Needs.{needs}
 use Rattle.maxeltu.proofs.maxeltu_report.Statement.{statement}
 use Rattle.maxeltu.proofs.maxeltu_report.Tie as tie
+
+plan-named-requires : tie.Need-plan-named-requires
+plan-named-requires c κs = search needs
+
+enum-known-p : tie.Need-enum-known-p
+enum-known-p c = search needs
+
+enum-told : tie.Need-enum-told
+enum-told c = search needs
+
+returns : tie.Need-returns
+unfolding reportCall
+returns c =
+    let start = c .before .before .before in
+    rw (of-none (start .args .kind) (start .args .k) (start .args .period) (start .args .total) (λ p. reportAnswer (reportOf p (start .args .i))) (c .before .before .plan-named .ensures) (c .enum-told .given .1)) (refl, after-refusal _ _ _ _, after-refusal _ _ _ _)
 
 report-requires : tie.Need-report-requires
 report-requires c κs = search needs
@@ -13,32 +30,11 @@ report-requires c κs = search needs
 report-answer-requires : tie.Need-report-answer-requires
 report-answer-requires c κs = search needs
 
-returns : tie.Need-returns
-unfolding reportCall
-returns c = rw (eq-eqb _ _ (c .before .before .before .before .if1 .taken), ← c .before .before .before .report .ensures) (c .report-answer .ensures)
-
-report-requires-2 : tie.Need-report-requires-2
-report-requires-2 c κs = search needs
-
-report-answer-requires-2 : tie.Need-report-answer-requires-2
-report-answer-requires-2 c κs = search needs
-
 returns-2 : tie.Need-returns-2
 unfolding reportCall
-returns-2 c = rw (ne-eqb _ _ (c .before .before .before .before .before .if1 .left), eq-eqb _ _ (c .before .before .before .before .if2 .taken), ← c .before .before .before .report2 .ensures) (c .report-answer2 .ensures)
-
-returns-3 : tie.Need-returns-3
-unfolding reportCall
-returns-3 c = rw (ne-eqb _ _ (c .before .if1 .left), ne-eqb _ _ (c .if2 .left)) (refl, after-refusal _ _ _ _, after-refusal _ _ _ _)
+returns-2 c =
+    let named = c .before .before .before .before .before in
+    rw (of-named (named .before .before .before .args .kind) (named .before .before .before .args .k) (named .before .before .before .args .period) (named .before .before .before .args .total) (λ p. reportAnswer (reportOf p (named .before .before .before .args .i))) (named .before .before .plan-named .ensures) (named .p .given .1), ← c .before .before .before .report .ensures) (c .report-answer .ensures)
 
 pub maxeltu-report-spec : {M : Type 1} → statement M
-maxeltu-report-spec =
-    tie.close
-    (tie.spec
-    report-requires
-    report-answer-requires
-    returns
-    report-requires-2
-    report-answer-requires-2
-    returns-2
-    returns-3)
+maxeltu-report-spec = tie.close (tie.spec plan-named-requires enum-known-p enum-told returns report-requires report-answer-requires returns-2)

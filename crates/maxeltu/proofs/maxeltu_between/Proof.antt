@@ -1,0 +1,40 @@
+-- The first four numbers name a plan, or none; then the places are those of the contents's answer.
+use mathlib.Core.Path.{refl}
+use Rattle.maxeltu.specs.Calls.{betweenCall}
+use Rattle.answers.specs.Answers.{contentsAnswer}
+use Rattle.plan.specs.Moments.{betweenOf}
+use Rattle.answers.proofs.Places.{after-refusal}
+use Rattle.maxeltu.proofs.GivenPlan.{of-named, of-none}
+use borrow.Author.Needs.{needs}
+use Rattle.maxeltu.proofs.maxeltu_between.Statement.{statement}
+use Rattle.maxeltu.proofs.maxeltu_between.Tie as tie
+
+plan-named-requires : tie.Need-plan-named-requires
+plan-named-requires c κs = search needs
+
+enum-known-p : tie.Need-enum-known-p
+enum-known-p c = search needs
+
+enum-told : tie.Need-enum-told
+enum-told c = search needs
+
+returns : tie.Need-returns
+unfolding betweenCall
+returns c =
+    let start = c .before .before .before in
+    rw (of-none (start .args .kind) (start .args .k) (start .args .period) (start .args .total) (λ p. contentsAnswer (betweenOf p (start .args .a) (start .args .b))) (c .before .before .plan-named .ensures) (c .enum-told .given .1)) (refl, after-refusal _ _ _ _, after-refusal _ _ _ _)
+
+between-requires : tie.Need-between-requires
+between-requires c κs = search needs
+
+contents-answer-requires : tie.Need-contents-answer-requires
+contents-answer-requires c κs = search needs
+
+returns-2 : tie.Need-returns-2
+unfolding betweenCall
+returns-2 c =
+    let named = c .before .before .before .before .before in
+    rw (of-named (named .before .before .before .args .kind) (named .before .before .before .args .k) (named .before .before .before .args .period) (named .before .before .before .args .total) (λ p. contentsAnswer (betweenOf p (named .before .before .before .args .a) (named .before .before .before .args .b))) (named .before .before .plan-named .ensures) (named .p .given .1), ← c .before .before .before .between .ensures) (c .contents-answer .ensures)
+
+pub maxeltu-between-spec : {M : Type 1} → statement M
+maxeltu-between-spec = tie.close (tie.spec plan-named-requires enum-known-p enum-told returns between-requires contents-answer-requires returns-2)
