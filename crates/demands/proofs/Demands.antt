@@ -22,6 +22,7 @@ use Rattle.plan.specs.Reports.{reportOf}
 use Rattle.schedule.proofs.Sums.{block}
 use Rattle.schedule.proofs.StretchSum.{stretch-is-sum}
 use Rattle.plan.proofs.Runs.{report-0-fullest, front-fullest, row-range, row-total}
+use Rattle.plan.proofs.ThereAndBack.{last-exact, nearest-exact, there-and-back, between-exact, counts-add-up}
 use Rattle.families.proofs.Schedules.{required-is-most, available-is-least}
 use Rattle.feasibility.proofs.Theorems.{test-passes, test-sound}
 use Rattle.even.proofs.EvenPlans.{even-plan-obeys, even-plan-longest, even-plan-refused}
@@ -113,6 +114,11 @@ demands = record {
   fuller-first = λ p ok. (report-0-fullest p ok, front-fullest p ok);
   even-rows = row-range;
   any-period = row-total;
+  last-report = last-exact;
+  nearest-report = nearest-exact;
+  there-and-back = there-and-back;
+  between-sums = between-exact;
+  counts-add-up = counts-add-up;
   reads-back = reads-back;
   written-bytes = writes-bytes;
   writes-back = writes-back;

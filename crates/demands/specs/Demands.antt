@@ -1,6 +1,6 @@
 -- The three demands as theorems, for every specification, cycle, plan and file. That each function gives what its definition says is
 -- its own contract; here is what the definitions promise. `demands` of proofs/Demands.antt proves all of it.
-use Prim.Native.Nat.{ℕ, _+_, _*_, _/_, _%_, _≤_, _<_}
+use Prim.Native.Nat.{ℕ, _+_, _-_, _*_, _/_, _%_, _≤_, _<_}
 use mathlib.Core.Path.{_≡_}
 use mathlib.Core.Logic.{_↔_, _⊎_}
 use mathlib.Core.Bool.{true}
@@ -16,12 +16,16 @@ use Rattle.spec.specs.declared.SpecRead.the-variants.{Accepted, Refused as NotR
 use Rattle.spec.specs.Limits.{IsAccepted}
 use Rattle.spec.specs.File.{readSpec}
 use Rattle.schedule.specs.Schedules.{Schedule, sum, minute, stretch, inStretch, share}
+use Rattle.schedule.specs.Moments.{IsLast, IsNearest, counted}
 use Rattle.schedule.specs.Rules.{Obeys}
 use Rattle.plan.specs.declared.Kind.the-variants.{Even}
 use Rattle.plan.specs.declared.Plan.{Plan}
 use Rattle.plan.specs.declared.Reported.the-variants.{At}
 use Rattle.plan.specs.Plans.{proper, run}
+use Rattle.plan.specs.declared.moments.Found.the-variants.{Number}
+use Rattle.plan.specs.declared.moments.Contents.the-variants.{Held}
 use Rattle.plan.specs.Reports.{reportOf}
+use Rattle.plan.specs.Moments.{lastOf, nearestOf, betweenOf}
 use Rattle.families.specs.declared.Family.the-variants.{MinimumDemand, MaximumSupply}
 use Rattle.families.specs.declared.Scheduled.the-variants.{Found as ScheduleOf}
 use Rattle.families.specs.Families.{scheduleFor}
@@ -87,6 +91,22 @@ pub record Demands : Type 0 where
       → (n * p .total / p .count ≤ sum (λ j. run p .size (i + j)) n) × (sum (λ j. run p .size (i + j)) n ≤ ceil (n * p .total) (p .count))
   -- and k in a row hold δ, of either kind
   pub any-period : (p : Plan) → proper p ≡ true → (i : ℕ) → sum (λ j. run p .size (i + j)) (p .count) ≡ p .total
+  -- From a minute back to the report (document 02, Req 05), of either kind and at every minute. The last report at or before minute m is the
+  -- greatest i whose minute is at most m; it is told of every proper plan, and of no other.
+  pub last-report : (p : Plan) (m i : ℕ) → (lastOf p m ≡ Number i) ↔ ((proper p ≡ true) × IsLast (run p) m i)
+  -- no report is nearer than the nearest, and none as near is before it
+  pub nearest-report : (p : Plan) (m i : ℕ) → (nearestOf p m ≡ Number i) ↔ ((proper p ≡ true) × IsNearest (run p) m i)
+  -- going from report i to its minute and back gives i
+  pub there-and-back : (p : Plan) (i m d : ℕ) → reportOf p i ≡ At m d → (lastOf p m ≡ Number i) × (nearestOf p m ≡ Number i)
+  -- What lies from minute a up to but not including b is told of every proper plan with b not before a, and of no other: the sums over the
+  -- reports at those minutes, of 1 and of their sizes, however many reports are looked at.
+  pub between-sums : (p : Plan) (a b reports records : ℕ)
+      → (betweenOf p a b ≡ Held reports records)
+      ↔ ((proper p ≡ true)
+      × ((a ≤ b)
+      × ((more : ℕ) → (reports ≡ sum (share (counted (run p)) a (b - a)) (b + more)) × (records ≡ sum (share (run p) a (b - a)) (b + more)))))
+  -- from a to b and from b to c is from a to c
+  pub counts-add-up : (p : Plan) (a b c n d n′ d′ : ℕ) → betweenOf p a b ≡ Held n d → betweenOf p b c ≡ Held n′ d′ → betweenOf p a c ≡ Held (n + n′) (d + d′)
   -- a written cycle reads back as itself
   pub reads-back : (places : ℕ) (c : List Pair) → 1 ≤ length c → length c ≤ 512 → length c ≤ places → readCycle places (cycleBytes c) ≡ pairs c
   -- what is written of 16-bit numbers is made of bytes
