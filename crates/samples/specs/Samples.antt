@@ -1,5 +1,5 @@
 -- Document 01, "Samples": those marked ★ as one table, and one proof that the definitions give every value that it prints. The sizes of
--- B with 15 are those of document 02, Req 02, and its offers those of Req 03.
+-- B with 15 are those of document 02, Req 02, and its offers those of Req 03; the way back from minutes, of Req 05, is ours.
 use Prim.Native.Nat.{ℕ, _+_, _*_}
 use mathlib.Core.Path.{_≡_, refl}
 use mathlib.Core.List.{List, [], _∷_}
@@ -17,11 +17,13 @@ use Rattle.spec.specs.File.{readSpec}
 use Rattle.spec.specs.Rates.{ratesFrom, bothRates, started}
 use Rattle.numbers.specs.Numbers.{ceil, all}
 use Rattle.schedule.specs.Schedules.{sum, minute, heldFrom, stretch}
+use Rattle.schedule.specs.Moments.{greatest, lastReport, firstLeast, nearestReport, reportsFrom, recordsFrom}
 use Rattle.plan.specs.declared.Plan.{Plan}
 use Rattle.plan.specs.declared.Reported.{Reported}
 use Rattle.plan.specs.declared.Reported.the-variants.{At, Refused as NotReported}
 use Rattle.plan.specs.Plans.{proper, run, kindRun, wellSize, wellGap, evenFirst, evenSize}
 use Rattle.plan.specs.Reports.{reportOf}
+use Rattle.plan.specs.Moments.{numberOf, lastOf, nearestOf, betweenOf}
 use Rattle.consistency.specs.Consistency.{consistencyOf, conditionsOf, boundsFitRates, sizeFitsBudget, gapFitsDemand, demandFitsDuration, fewestReportsFitBudget, enoughReportsForDemand, supplyCoversDemand, whereRate, whereRange}
 use Rattle.families.specs.declared.Family.the-variants.{MinimumDemand, MaximumSupply}
 use Rattle.families.specs.declared.Scheduled.{Scheduled}
@@ -31,7 +33,7 @@ use Rattle.feasibility.specs.Test.{testOf, testConsistent, testTaken, figurePas
 use Rattle.even.specs.declared.EvenPlan.{EvenPlan}
 use Rattle.even.specs.declared.EvenPlan.the-variants.{Found, Refused}
 use Rattle.even.specs.Even.{evenPlan, planOr10, evenPlanAt, evenGap, largest, fits, supplyFits, demandFits, totalOf, countAt}
-use Rattle.answers.specs.Answers.{Answer, consistencyAnswer, scheduledAnswer, testedAnswer, evenAnswer}
+use Rattle.answers.specs.Answers.{Answer, consistencyAnswer, scheduledAnswer, testedAnswer, evenAnswer, numberAnswer, contentsAnswer}
 use Rattle.pairs.specs.declared.Pair.{Pair}
 use Rattle.cycle.specs.Cycles.{pairGap, pairSize, cycleRun, round}
 use Rattle.cycle.specs.Check.{checkNumber, cycleNumber, gapsAllowed, sizesAllowed, supplyKept, demandMet}
@@ -57,6 +59,10 @@ pub data Claim : Type 0 where
   evenGives : (gap k total : ℕ) → Claim
   evenReports : (minutes sizes : List ℕ) → Claim
   evenRefuses : (number : ℕ) → Claim
+  minimumDemandMinute : (k minute last nearest : ℕ) → Claim
+  minimumDemandBetween : (k a b reports records : ℕ) → Claim
+  evenMinute : (minute last nearest : ℕ) → Claim
+  evenBetween : (a b reports records : ℕ) → Claim
   cycleGets : (cycle : List Pair) (number : ℕ) → Claim
   offersGet : (offers : List Offer) → Claim
   isReadFrom : (file : List ℕ) → Claim
@@ -82,10 +88,6 @@ reportsAre p i (m ∷ ms) (d ∷ ds) = reportIs (reportOf p i) m d && reportsAre
 reportsAre p i [] (d ∷ ds) = false
 reportsAre p i (m ∷ ms) [] = false
 
-scheduleReports : Scheduled → List ℕ → List ℕ → Bool
-scheduleReports (ScheduleOf p v) minutes sizes = reportsAre p 0 minutes sizes
-scheduleReports (NotScheduled n) minutes sizes = false
-
 -- the kinds, as numbers
 wellFormed : ℕ
 wellFormed = 0
@@ -93,9 +95,21 @@ wellFormed = 0
 even : ℕ
 even = 1
 
-evenReportsAre : EvenPlan → List ℕ → List ℕ → Bool
-evenReportsAre (Found p) minutes sizes = reportsAre p 0 minutes sizes
-evenReportsAre (Refused n) minutes sizes = false
+-- the way back from minutes
+minuteIs : Plan → (minute last nearest : ℕ) → Bool
+minuteIs p m i j = answerIs (numberAnswer (lastOf p m)) 0 (i ∷ []) && answerIs (numberAnswer (nearestOf p m)) 0 (j ∷ [])
+
+betweenIs : Plan → (a b reports records : ℕ) → Bool
+betweenIs p a b n d = answerIs (contentsAnswer (betweenOf p a b)) 0 (n ∷ d ∷ [])
+
+-- of the plan of a schedule, and of an even plan
+ofSchedule : Scheduled → (Plan → Bool) → Bool
+ofSchedule (ScheduleOf p v) holds = holds p
+ofSchedule (NotScheduled n) holds = false
+
+ofEven : EvenPlan → (Plan → Bool) → Bool
+ofEven (Found p) holds = holds p
+ofEven (Refused n) holds = false
 
 sameRate : Rate → Rate → Bool
 sameRate Absent Absent = true
@@ -134,13 +148,17 @@ answersAre (a ∷ more) [] = false
 claimHolds : Spec → Claim → Bool
 claimHolds s isConsistent = answerIs (consistencyAnswer (consistencyOf s)) 0 []
 claimHolds s (minimumDemand k π δ v) = answerIs (scheduledAnswer (scheduleFor MinimumDemand s k)) 0 (wellFormed ∷ k ∷ π ∷ δ ∷ v ∷ [])
-claimHolds s (minimumDemandReports k minutes sizes) = scheduleReports (scheduleFor MinimumDemand s k) minutes sizes
+claimHolds s (minimumDemandReports k minutes sizes) = ofSchedule (scheduleFor MinimumDemand s k) (λ p. reportsAre p 0 minutes sizes)
 claimHolds s (maximumSupply k π δ v) = answerIs (scheduledAnswer (scheduleFor MaximumSupply s k)) 0 (wellFormed ∷ k ∷ π ∷ δ ∷ v ∷ [])
 claimHolds s (testPasses k π δ v) = answerIs (testedAnswer (testOf s)) 0 (wellFormed ∷ k ∷ π ∷ δ ∷ v ∷ [])
 claimHolds s (testRefuses n) = answerIs (testedAnswer (testOf s)) n []
 claimHolds s (evenGives g k δ) = answerIs (evenAnswer (evenPlan s)) 0 (even ∷ k ∷ k * g ∷ δ ∷ [])
-claimHolds s (evenReports minutes sizes) = evenReportsAre (evenPlan s) minutes sizes
+claimHolds s (evenReports minutes sizes) = ofEven (evenPlan s) (λ p. reportsAre p 0 minutes sizes)
 claimHolds s (evenRefuses n) = answerIs (evenAnswer (evenPlan s)) n []
+claimHolds s (minimumDemandMinute k m i j) = ofSchedule (scheduleFor MinimumDemand s k) (λ p. minuteIs p m i j)
+claimHolds s (minimumDemandBetween k a b n d) = ofSchedule (scheduleFor MinimumDemand s k) (λ p. betweenIs p a b n d)
+claimHolds s (evenMinute m i j) = ofEven (evenPlan s) (λ p. minuteIs p m i j)
+claimHolds s (evenBetween a b n d) = ofEven (evenPlan s) (λ p. betweenIs p a b n d)
 claimHolds s (cycleGets c n) = eqb (checkNumber s c) n
 claimHolds s (offersGet offers) = answersAre (plainAnswers s [] (offered offers)) offers
 claimHolds s (isReadFrom file) = readTo (readSpec file) s
@@ -183,6 +201,10 @@ samples =
     minimumDemand 2 110 17 34
     ∷ minimumDemand 3 158 17 29
     ∷ minimumDemandReports 3 (0 ∷ 52 ∷ 105 ∷ []) (6 ∷ 6 ∷ 5 ∷ [])
+    ∷ minimumDemandMinute 3 26 0 0
+    ∷ minimumDemandMinute 3 27 0 1
+    ∷ minimumDemandMinute 3 157 2 3
+    ∷ minimumDemandBetween 3 52 158 2 11
     ∷ testPasses 3 158 17 29
     ∷ evenGives 52 3 17 ∷ [])
     ∷ sample 3 10 45 55 28 220 17 158 (testRefuses 9 ∷ evenRefuses 10 ∷ [])
@@ -194,6 +216,9 @@ samples =
     ∷ testRefuses 9
     ∷ evenGives 5 4 10
     ∷ evenReports (0 ∷ 5 ∷ 10 ∷ 15 ∷ []) (3 ∷ 2 ∷ 3 ∷ 2 ∷ [])
+    ∷ evenMinute 12 2 2
+    ∷ evenMinute 13 2 3
+    ∷ evenBetween 5 25 4 10
     ∷ cycleGets (cycle 5 (3 ∷ 2 ∷ [])) 0
     ∷ cycleGets (cycle 5 (3 ∷ 3 ∷ 2 ∷ 2 ∷ [])) 15
     ∷ cycleGets (cycle 5 (2 ∷ 2 ∷ 2 ∷ 3 ∷ [])) 16
@@ -227,5 +252,5 @@ samplesHold (x ∷ xs) = claimsHold (x .spec) (x .claims) && samplesHold xs
 
 -- Every value of the table is what the definitions compute.
 pub samples-hold : samplesHold samples ≡ true
-unfolding samplesHold samples sample cycle offer offered leftIs answersAre claimsHold claimHolds same answerIs reportIs reportsAre scheduleReports wellFormed even evenReportsAre sameRate sameRange readTo specNumber limits order rateLimits rangeLimits rangeOrder sizeAllowed gapAllowed gapTop readSpec ifAccepted started sum minute heldFrom stretch proper run kindRun wellSize wellGap evenFirst evenSize reportOf consistencyOf conditionsOf boundsFitRates sizeFitsBudget gapFitsDemand demandFitsDuration fewestReportsFitBudget enoughReportsForDemand supplyCoversDemand whereRate whereRange ceil scheduleFor bothRates ratesFrom scheduled exists planFor supplyFigure required available least testOf testConsistent testTaken figurePasses taken lastCount takenUpTo betterOf isBetter familyOf evenPlan planOr10 evenPlanAt evenGap largest fits supplyFits demandFits totalOf countAt pairGap pairSize cycleRun round checkNumber cycleNumber gapsAllowed sizesAllowed supplyKept demandMet all countedAt tooEarly overBudget noPlace offerNumber after later budgetLeft offerAnswer plainAnswers
+unfolding samplesHold samples sample cycle offer offered leftIs answersAre claimsHold claimHolds same answerIs reportIs reportsAre wellFormed even minuteIs betweenIs ofSchedule ofEven sameRate sameRange readTo specNumber limits order rateLimits rangeLimits rangeOrder sizeAllowed gapAllowed gapTop readSpec ifAccepted started sum minute heldFrom stretch proper run kindRun wellSize wellGap evenFirst evenSize reportOf numberOf betweenOf greatest lastReport firstLeast nearestReport reportsFrom recordsFrom consistencyOf conditionsOf boundsFitRates sizeFitsBudget gapFitsDemand demandFitsDuration fewestReportsFitBudget enoughReportsForDemand supplyCoversDemand whereRate whereRange ceil scheduleFor bothRates ratesFrom scheduled exists planFor supplyFigure required available least testOf testConsistent testTaken figurePasses taken lastCount takenUpTo betterOf isBetter familyOf evenPlan planOr10 evenPlanAt evenGap largest fits supplyFits demandFits totalOf countAt pairGap pairSize cycleRun round checkNumber cycleNumber gapsAllowed sizesAllowed supplyKept demandMet all countedAt tooEarly overBudget noPlace offerNumber after later budgetLeft offerAnswer plainAnswers
 samples-hold = refl

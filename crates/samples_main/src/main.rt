@@ -7,8 +7,12 @@ use feasibility::Tested;
 use libc::STDOUT_FILENO;
 use meter::Left;
 use meter::Meter;
+use plan::Kind;
 use plan::Plan;
 use plan::Reported;
+use plan::moments;
+use plan::moments::Contents;
+use plan::moments::Found;
 use spec::Range;
 use spec::Rate;
 use spec::Spec;
@@ -148,6 +152,44 @@ fn even_plan(s: Spec) {
     }
 }
 
+fn report_number(found: Found) {
+    match found {
+        Found::Number(i) => {
+            number(i as u64);
+        }
+        Found::Refused(n) => {
+            number(n as u64);
+        }
+    }
+}
+
+// A minute, the last report at or before it, and the nearest.
+fn minute(p: Plan, m: u32) {
+    text(b"  minute");
+    number(m as u64);
+    report_number(moments::last_report(p, m));
+    report_number(moments::nearest_report(p, m));
+    end();
+}
+
+// Two minutes, and the reports and records between them.
+fn between(p: Plan, a: u32, b: u32) {
+    text(b"  between");
+    number(a as u64);
+    number(b as u64);
+    let found = moments::between(p, a, b);
+    match found {
+        Contents::Held { reports, records } => {
+            number(reports as u64);
+            number(records);
+        }
+        Contents::Refused(n) => {
+            number(n as u64);
+        }
+    }
+    end();
+}
+
 // The number of a cycle: gap, size, gap, size, ..
 fn cycle(s: Spec, words: &[u16]) {
     text(b"  cycle");
@@ -162,6 +204,16 @@ fn sample_a() {
     minimum_demand(s, 3);
     test(s);
     even_plan(s);
+    let p = Plan {
+        kind: Kind::WellFormed,
+        count: 3,
+        period: 158,
+        total: 17,
+    };
+    minute(p, 26);
+    minute(p, 27);
+    minute(p, 157);
+    between(p, 52, 158);
 }
 
 fn sample_a_with_28() {
@@ -222,6 +274,15 @@ fn sample_g() {
     };
     test(s);
     even_plan(s);
+    let p = Plan {
+        kind: Kind::Even,
+        count: 4,
+        period: 20,
+        total: 10,
+    };
+    minute(p, 12);
+    minute(p, 13);
+    between(p, 5, 25);
     cycle(s, &[5, 3, 5, 2]);
     cycle(s, &[5, 3, 5, 3, 5, 2, 5, 2]);
     cycle(s, &[5, 2, 5, 2, 5, 2, 5, 3]);
