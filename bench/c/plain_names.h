@@ -1,6 +1,6 @@
 /*
  * Included before plain.c where it is linked beside the library: the same
- * twelve functions under names of their own.
+ * fifteen functions under names of their own.
  */
 #define maxeltu_verdict plain_verdict
 #define maxeltu_consistency plain_consistency
@@ -9,6 +9,9 @@
 #define maxeltu_test plain_test
 #define maxeltu_even_plan plain_even_plan
 #define maxeltu_report plain_report
+#define maxeltu_last_report plain_last_report
+#define maxeltu_nearest_report plain_nearest_report
+#define maxeltu_between plain_between
 #define maxeltu_check_cycle plain_check_cycle
 #define maxeltu_read_cycle plain_read_cycle
 #define maxeltu_write_cycle plain_write_cycle

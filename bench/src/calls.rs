@@ -6,6 +6,8 @@ type TwoFiles = unsafe extern "C" fn(*const u8, usize, *const u8, usize) -> u32;
 type Test = unsafe extern "C" fn(*const u8, usize, *mut u32, *mut u32, *mut u32, *mut u32, *mut u32) -> u32;
 type EvenPlan = unsafe extern "C" fn(*const u8, usize, *mut u32, *mut u32, *mut u32) -> u32;
 type Report = unsafe extern "C" fn(u32, u32, u32, u32, u32, *mut u64, *mut u32) -> u32;
+type ReportAt = unsafe extern "C" fn(u32, u32, u32, u32, u32, *mut u32) -> u32;
+type Between = unsafe extern "C" fn(u32, u32, u32, u32, u32, u32, *mut u32, *mut u64) -> u32;
 type CheckCycle = unsafe extern "C" fn(*const u8, usize, *const Pair, usize) -> u32;
 type ReadCycle = unsafe extern "C" fn(*const u8, usize, *mut Pair, usize, *mut u32) -> u32;
 type WriteCycle = unsafe extern "C" fn(*const Pair, usize, *mut u8, usize, *mut u32) -> u32;
@@ -23,7 +25,7 @@ impl Meter {
 #[rustfmt::skip]
 macro_rules! declare {
     (
-        $verdict:ident $test:ident $even_plan:ident $report:ident
+        $verdict:ident $test:ident $even_plan:ident $report:ident $last_report:ident $nearest_report:ident $between:ident
         $check_cycle:ident $read_cycle:ident $write_cycle:ident $make_meter:ident $offer:ident
     ) => {
         extern "C" {
@@ -31,6 +33,9 @@ macro_rules! declare {
             fn $test(spec: *const u8, spec_len: usize, condition: *mut u32, k: *mut u32, period: *mut u32, total: *mut u32, supply: *mut u32) -> u32;
             fn $even_plan(spec: *const u8, spec_len: usize, k: *mut u32, period: *mut u32, total: *mut u32) -> u32;
             fn $report(kind: u32, k: u32, period: u32, total: u32, i: u32, minute: *mut u64, size: *mut u32) -> u32;
+            fn $last_report(kind: u32, k: u32, period: u32, total: u32, minute: u32, number: *mut u32) -> u32;
+            fn $nearest_report(kind: u32, k: u32, period: u32, total: u32, minute: u32, number: *mut u32) -> u32;
+            fn $between(kind: u32, k: u32, period: u32, total: u32, a: u32, b: u32, reports: *mut u32, records: *mut u64) -> u32;
             fn $check_cycle(spec: *const u8, spec_len: usize, pairs: *const Pair, count: usize) -> u32;
             fn $read_cycle(file: *const u8, file_len: usize, pairs: *mut Pair, places: usize, count: *mut u32) -> u32;
             fn $write_cycle(pairs: *const Pair, count: usize, file: *mut u8, room: usize, written: *mut u32) -> u32;
@@ -41,11 +46,11 @@ macro_rules! declare {
 }
 
 declare!(
-    maxeltu_verdict maxeltu_test maxeltu_even_plan maxeltu_report
+    maxeltu_verdict maxeltu_test maxeltu_even_plan maxeltu_report maxeltu_last_report maxeltu_nearest_report maxeltu_between
     maxeltu_check_cycle maxeltu_read_cycle maxeltu_write_cycle maxeltu_make_meter maxeltu_offer
 );
 declare!(
-    plain_verdict plain_test plain_even_plan plain_report
+    plain_verdict plain_test plain_even_plan plain_report plain_last_report plain_nearest_report plain_between
     plain_check_cycle plain_read_cycle plain_write_cycle plain_make_meter plain_offer
 );
 
@@ -54,6 +59,9 @@ pub struct Calls {
     test: Test,
     even_plan: EvenPlan,
     report: Report,
+    last_report: ReportAt,
+    nearest_report: ReportAt,
+    between: Between,
     check_cycle: CheckCycle,
     read_cycle: ReadCycle,
     write_cycle: WriteCycle,
@@ -66,6 +74,9 @@ pub const LIBRARY: Calls = Calls {
     test: maxeltu_test,
     even_plan: maxeltu_even_plan,
     report: maxeltu_report,
+    last_report: maxeltu_last_report,
+    nearest_report: maxeltu_nearest_report,
+    between: maxeltu_between,
     check_cycle: maxeltu_check_cycle,
     read_cycle: maxeltu_read_cycle,
     write_cycle: maxeltu_write_cycle,
@@ -78,6 +89,9 @@ pub const PLAIN_C: Calls = Calls {
     test: plain_test,
     even_plan: plain_even_plan,
     report: plain_report,
+    last_report: plain_last_report,
+    nearest_report: plain_nearest_report,
+    between: plain_between,
     check_cycle: plain_check_cycle,
     read_cycle: plain_read_cycle,
     write_cycle: plain_write_cycle,
@@ -104,6 +118,27 @@ impl Calls {
     pub fn report(&self, kind: u32, [k, period, total]: [u32; 3], i: u32) -> u32 {
         let (mut minute, mut size) = (0, 0);
         unsafe { (self.report)(kind, k, period, total, i, &mut minute, &mut size) }
+    }
+
+    /// The number, of a proper plan.
+    pub fn last_report(&self, kind: u32, [k, period, total]: [u32; 3], minute: u32) -> u32 {
+        let mut number = 0;
+        assert_eq!(unsafe { (self.last_report)(kind, k, period, total, minute, &mut number) }, 0);
+        number
+    }
+
+    /// The number, of a proper plan.
+    pub fn nearest_report(&self, kind: u32, [k, period, total]: [u32; 3], minute: u32) -> u32 {
+        let mut number = 0;
+        assert_eq!(unsafe { (self.nearest_report)(kind, k, period, total, minute, &mut number) }, 0);
+        number
+    }
+
+    /// Reports and records, of a proper plan and minutes in their order.
+    pub fn between(&self, kind: u32, [k, period, total]: [u32; 3], [a, b]: [u32; 2]) -> (u32, u64) {
+        let (mut reports, mut records) = (0, 0);
+        assert_eq!(unsafe { (self.between)(kind, k, period, total, a, b, &mut reports, &mut records) }, 0);
+        (reports, records)
     }
 
     pub fn check_cycle(&self, spec: &[u8], pairs: &[Pair]) -> u32 {

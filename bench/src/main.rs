@@ -2,6 +2,7 @@
 
 mod calls;
 mod meters;
+mod moments;
 mod windows;
 
 use calls::{Calls, LIBRARY, PLAIN_C};
@@ -182,6 +183,7 @@ fn main() {
     cycles();
     plans();
     reports();
+    moments::all();
     meters::all();
     windows::all();
 }

@@ -1,5 +1,5 @@
 /*
- * The twelve calls from C, through include/maxeltu.h: the samples, every refusal
+ * The fifteen calls from C, through include/maxeltu.h: the samples, every refusal
  * of every call, and the places that a call must leave as they were.
  *
  * Prints a line for each group, whose name starts with the argument if there is
@@ -116,6 +116,30 @@ static uint32_t even_plan(struct spec_file s)
     return maxeltu_even_plan(SPEC(s), &places[0], &places[1], &places[2]);
 }
 
+/* The number comes to the first place. */
+static uint32_t last_report(uint32_t kind, uint32_t k, uint32_t period, uint32_t total, uint32_t minute)
+{
+    fill_places();
+    return maxeltu_last_report(kind, k, period, total, minute, &places[0]);
+}
+
+static uint32_t nearest_report(uint32_t kind, uint32_t k, uint32_t period, uint32_t total, uint32_t minute)
+{
+    fill_places();
+    return maxeltu_nearest_report(kind, k, period, total, minute, &places[0]);
+}
+
+/* The reports come to the first place; the records between two numbers that must stay. */
+static uint64_t records[3];
+static const uint64_t records_held[3] = { 0xFEDCBA9876543210, 0x0123456789ABCDEF, 0x5A5A5A5AA5A5A5A5 };
+
+static uint32_t between(uint32_t kind, uint32_t k, uint32_t period, uint32_t total, uint32_t a, uint32_t b)
+{
+    fill_places();
+    memcpy(records, records_held, sizeof records);
+    return maxeltu_between(kind, k, period, total, a, b, &places[0], &records[1]);
+}
+
 /* A meter between numbers that no call may touch; `former` is what it held before the last call. */
 static struct {
     uint32_t before[4];
@@ -170,6 +194,28 @@ static bool report_is(uint32_t kind, uint32_t k, uint32_t period, uint32_t total
         && got_minute == minute && got_size == size;
 }
 
+/* The last report at or before this minute, and the nearest one. */
+static bool minute_has(uint32_t kind, uint32_t k, uint32_t period, uint32_t total,
+                       uint32_t minute, uint32_t last, uint32_t nearest)
+{
+    return last_report(kind, k, period, total, minute) == MAXELTU_OK && hold(1, last)
+        && nearest_report(kind, k, period, total, minute) == MAXELTU_OK && hold(1, nearest);
+}
+
+static bool between_has(uint32_t kind, uint32_t k, uint32_t period, uint32_t total,
+                        uint32_t a, uint32_t b, uint32_t reports, uint64_t sum)
+{
+    return between(kind, k, period, total, a, b) == MAXELTU_OK && hold(1, reports) && records[1] == sum
+        && records[0] == records_held[0] && records[2] == records_held[2];
+}
+
+static bool between_refused(uint32_t refusal, uint32_t kind, uint32_t k, uint32_t period, uint32_t total,
+                            uint32_t a, uint32_t b)
+{
+    return between(kind, k, period, total, a, b) == refusal && untouched()
+        && memcmp(records, records_held, sizeof records) == 0;
+}
+
 static void samples_of_plans(void)
 {
     begin("samples A to F");
@@ -198,6 +244,36 @@ static void samples_of_plans(void)
     CHECK(consistency(sample_f()) == 0 && untouched());
     CHECK(test(sample_f()) == MAXELTU_NO_SCHEDULE_AT_ALL && untouched());
     CHECK(even_plan(spec_of(7, 6, 5, 5, 4, 4, 10, 10)) == MAXELTU_NO_EVEN_PLAN && untouched());
+    end();
+}
+
+/* Of sample A minutes 0, 52, 105, 158 and sizes 6, 6, 5; of B, every 5 minutes, 3 and 2 in turn. */
+static void samples_of_minutes(void)
+{
+    begin("samples A and B, from a minute back to the report");
+    CHECK(minute_has(MAXELTU_WELL_FORMED, 3, 158, 17, 0, 0, 0));
+    CHECK(minute_has(MAXELTU_WELL_FORMED, 3, 158, 17, 26, 0, 0));
+    CHECK(minute_has(MAXELTU_WELL_FORMED, 3, 158, 17, 27, 0, 1));
+    CHECK(minute_has(MAXELTU_WELL_FORMED, 3, 158, 17, 51, 0, 1));
+    CHECK(minute_has(MAXELTU_WELL_FORMED, 3, 158, 17, 52, 1, 1));
+    CHECK(minute_has(MAXELTU_WELL_FORMED, 3, 158, 17, 157, 2, 3));
+    CHECK(minute_has(MAXELTU_WELL_FORMED, 3, 158, 17, 158, 3, 3));
+    CHECK(minute_has(MAXELTU_WELL_FORMED, 3, 158, 17, 184, 3, 3));
+    CHECK(minute_has(MAXELTU_WELL_FORMED, 3, 158, 17, 185, 3, 4));
+    CHECK(between_has(MAXELTU_WELL_FORMED, 3, 158, 17, 0, 158, 3, 17));
+    CHECK(between_has(MAXELTU_WELL_FORMED, 3, 158, 17, 52, 158, 2, 11));
+    CHECK(between_has(MAXELTU_WELL_FORMED, 3, 158, 17, 52, 159, 3, 17));
+    CHECK(between_has(MAXELTU_WELL_FORMED, 3, 158, 17, 53, 158, 1, 5));
+    CHECK(between_has(MAXELTU_WELL_FORMED, 3, 158, 17, 52, 52, 0, 0));
+    for (uint32_t i = 0; i < 8; i++) {
+        CHECK(minute_has(MAXELTU_EVEN, 4, 20, 10, 5 * i, i, i));
+        CHECK(minute_has(MAXELTU_EVEN, 4, 20, 10, 5 * i + 2, i, i));
+        CHECK(minute_has(MAXELTU_EVEN, 4, 20, 10, 5 * i + 3, i, i + 1));
+        CHECK(minute_has(MAXELTU_EVEN, 4, 20, 10, 5 * i + 4, i, i + 1));
+        CHECK(between_has(MAXELTU_EVEN, 4, 20, 10, 5 * i, 5 * i + 5, 1, 3 - i % 2));
+        CHECK(between_has(MAXELTU_EVEN, 4, 20, 10, 5 * i + 1, 5 * i + 5, 0, 0));
+        CHECK(between_has(MAXELTU_EVEN, 4, 20, 10, 5 * i, 5 * i + 20, 4, 10));
+    }
     end();
 }
 
@@ -323,14 +399,16 @@ static void refusals_of_plans(void)
     end();
 }
 
+/* Kind, k, period and total of plans that are not proper. */
+static const uint32_t improper[][4] = {
+    { 0, 0, 20, 10 }, { 0, 20161, 20161, 20161 }, { 0, 4, 3, 10 }, { 0, 4, 80641, 10 },
+    { 0, 4, 20, 3 }, { 0, 4, 20, 4001 }, { 1, 4, 21, 10 }, { 1, 0, 0, 0 },
+    { 2, 4, 20, 10 }, { 0xFFFFFFFF, 4, 20, 10 }, { 0, 0xFFFFFFFF, 0xFFFFFFFF, 0xFFFFFFFF },
+};
+
 static void refusals_of_reports(void)
 {
     begin("refusal 11 and far reports");
-    static const uint32_t improper[][4] = {
-        { 0, 0, 20, 10 }, { 0, 20161, 20161, 20161 }, { 0, 4, 3, 10 }, { 0, 4, 80641, 10 },
-        { 0, 4, 20, 3 }, { 0, 4, 20, 4001 }, { 1, 4, 21, 10 }, { 1, 0, 0, 0 },
-        { 2, 4, 20, 10 }, { 0xFFFFFFFF, 4, 20, 10 }, { 0, 0xFFFFFFFF, 0xFFFFFFFF, 0xFFFFFFFF },
-    };
     for (size_t i = 0; i < sizeof improper / sizeof *improper; i++) {
         const uint32_t *plan = improper[i];
         uint64_t minute = 0x0123456789ABCDEF;
@@ -345,6 +423,38 @@ static void refusals_of_reports(void)
     CHECK(report_is(MAXELTU_EVEN, 20160, 20160, 20160000, UINT32_MAX, UINT32_MAX, 1000));
     CHECK(report_is(MAXELTU_EVEN, 20160, 20160, 20159999, UINT32_MAX - 256, UINT32_MAX - 256, 999));
     CHECK(report_is(MAXELTU_EVEN, 20160, 20160, 20161, UINT32_MAX - 255, UINT32_MAX - 255, 2));
+    end();
+}
+
+static void refusals_of_minutes(void)
+{
+    begin("refusals 11 and 23 of minutes, and far minutes");
+    static const uint32_t minutes[] = { 0, 1, 20160, UINT32_MAX };
+    for (size_t i = 0; i < sizeof improper / sizeof *improper; i++)
+        for (size_t m = 0; m < sizeof minutes / sizeof *minutes; m++) {
+            const uint32_t *plan = improper[i], minute = minutes[m];
+            CHECK(last_report(plan[0], plan[1], plan[2], plan[3], minute) == MAXELTU_PLAN_IMPROPER && untouched());
+            CHECK(nearest_report(plan[0], plan[1], plan[2], plan[3], minute) == MAXELTU_PLAN_IMPROPER && untouched());
+            /* It comes before the order of the minutes. */
+            CHECK(between_refused(MAXELTU_PLAN_IMPROPER, plan[0], plan[1], plan[2], plan[3], 5, minute));
+            CHECK(between_refused(MAXELTU_PLAN_IMPROPER, plan[0], plan[1], plan[2], plan[3], minute, 5));
+        }
+    for (uint32_t kind = MAXELTU_WELL_FORMED; kind <= MAXELTU_EVEN; kind++) {
+        CHECK(between_refused(MAXELTU_BACKWARDS, kind, 4, 20, 10, 1, 0));
+        CHECK(between_refused(MAXELTU_BACKWARDS, kind, 4, 20, 10, 20, 19));
+        CHECK(between_refused(MAXELTU_BACKWARDS, kind, 4, 20, 10, UINT32_MAX, 0));
+        CHECK(between_refused(MAXELTU_BACKWARDS, kind, 4, 20, 10, UINT32_MAX, UINT32_MAX - 1));
+        CHECK(between_has(kind, 4, 20, 10, UINT32_MAX, UINT32_MAX, 0, 0));
+        /* A report every minute: the last is that of the last minute, and the records take more than 32 bits. */
+        CHECK(minute_has(kind, 1, 1, 1000, UINT32_MAX, UINT32_MAX, UINT32_MAX));
+        CHECK(minute_has(kind, 20160, 20160, 20160000, UINT32_MAX, UINT32_MAX, UINT32_MAX));
+        CHECK(between_has(kind, 1, 1, 1000, 0, UINT32_MAX, UINT32_MAX, UINT64_C(4294967295000)));
+        CHECK(between_has(kind, 20160, 20160, 20160000, 1, UINT32_MAX, UINT32_MAX - 1, UINT64_C(4294967294000)));
+        /* The nearest report is past minute 2^32 - 1, at 20,001 * 214,738. */
+        CHECK(minute_has(kind, 1, 20001, 1, UINT32_MAX, 214737, 214738));
+        CHECK(minute_has(kind, 20160, 406425600, 20160000, UINT32_MAX, 213044, 213044));
+        CHECK(between_has(kind, 20160, 406425600, 20160000, 0, UINT32_MAX, 213045, 213045000));
+    }
     end();
 }
 
@@ -643,10 +753,12 @@ int main(int argc, char **argv)
     if (argc > 1)
         build = argv[1];
     samples_of_plans();
+    samples_of_minutes();
     samples_of_cycles();
     refusals_of_specifications();
     refusals_of_plans();
     refusals_of_reports();
+    refusals_of_minutes();
     reading_cycles();
     writing_cycles();
     longest_cycle();

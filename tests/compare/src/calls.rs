@@ -259,8 +259,8 @@ fn even_search_case(random: &mut Random, library: &mut Library) -> Verdict {
     same(wanted.answer, library.even_plan(&file, before), wanted, || hex(&file))
 }
 
-/// A plan that is proper, or nearly.
-fn some_plan(random: &mut Random) -> (u32, [u64; 3]) {
+/// A plan that is proper, or nearly, with its kind by number.
+pub fn some_plan(random: &mut Random) -> (u32, [u64; 3]) {
     let kind = random.pick(&[0, 0, 0, 1, 1, 1, 1, 1, 1, 1, 1, 2]);
     let kind = if kind == 2 { random.pick(&[2, 3, 256, u32::MAX]) } else { kind };
     let most_k = random.pick(&[1, 4, 12, 100, 20_160]);
@@ -284,6 +284,16 @@ fn some_plan(random: &mut Random) -> (u32, [u64; 3]) {
     (kind, [k, period, total])
 }
 
+/// The plan of these numbers, where its kind is one of the two: a plan of any other is not proper.
+pub fn plan_of(kind: u32, [k, period, total]: [u64; 3]) -> Result<Plan, Refusal> {
+    let kind = match kind {
+        0 => Kind::WellFormed,
+        1 => Kind::Even,
+        _ => return Err(11),
+    };
+    Ok(Plan { kind, k, period, total })
+}
+
 fn report_case(random: &mut Random, library: &mut Library) -> Verdict {
     let (kind, [k, period, total]) = some_plan(random);
     let i = match random.below(6) {
@@ -297,11 +307,7 @@ fn report_case(random: &mut Random, library: &mut Library) -> Verdict {
         _ => random.of_any_length(32),
     };
     let before = random.places();
-    let made = match kind {
-        0 => walked(Plan { kind: Kind::WellFormed, k, period, total }, i),
-        1 => walked(Plan { kind: Kind::Even, k, period, total }, i),
-        _ => Err(11),
-    };
+    let made = plan_of(kind, [k, period, total]).and_then(|plan| walked(plan, i));
     let wanted = expected(made.map(|(minute, size)| [minute >> 32, minute & 0xFFFF_FFFF, size]), before);
     let numbers = [k as u32, period as u32, total as u32];
     same(wanted.answer, library.report(kind, numbers, i as u32, before), wanted, || {

@@ -146,17 +146,73 @@ impl Checks {
 
     /// Minute and size of a report; or the refusal.
     pub fn report(&mut self, name: &str, plan: Plan, i: u32, wanted: Result<(u64, u64), u32>) {
-        let numbers = [plan.k, plan.period, plan.total].map(|n| n as u32);
-        let got = self.library.report(u32::from(plan.kind == Kind::Even), numbers, i, [HELD; 3]);
+        let (kind, numbers) = handed(&plan);
+        let got = self.library.report(kind, numbers, i, [HELD; 3]);
         let reference = if i < 4_096 { plan.report_by_walk(i.into()) } else { plan.report(i.into()) };
         let halves = |(minute, size): (u64, u64)| [minute >> 32, minute & 0xFFFF_FFFF, size];
         self.outcome(&format!("{name}, report {i}"), got, reference.map(halves), wanted.map(halves));
     }
 
+    /// The last report at or before a minute, and the nearest one.
+    pub fn minute(&mut self, name: &str, plan: Plan, minute: u32, wanted: (u64, u64)) {
+        let (kind, numbers) = handed(&plan);
+        let text = format!("{name}, minute {minute}");
+        let last = self.library.last_report(kind, numbers, minute, [HELD]);
+        let nearest = self.library.nearest_report(kind, numbers, minute, [HELD]);
+        let reference = if minute < 4_096 {
+            (plan.last_report_by_walk(minute.into()), plan.nearest_report_by_walk(minute.into()))
+        } else {
+            (plan.last_report(minute.into()), plan.nearest_report(minute.into()))
+        };
+        self.outcome(&format!("{text}, last report"), last, reference.0.map(|i| [i]), Ok([wanted.0]));
+        self.outcome(&format!("{text}, nearest report"), nearest, reference.1.map(|i| [i]), Ok([wanted.1]));
+    }
+
+    /// Reports and records from minute a up to but not including b; or the refusal.
+    pub fn between(&mut self, name: &str, plan: Plan, (a, b): (u32, u32), wanted: Result<(u64, u64), u32>) {
+        let (kind, numbers) = handed(&plan);
+        let got = self.library.between(kind, numbers, [a, b], [HELD; 3]);
+        let reference = if b < 4_096 { plan.between_by_walk(a.into(), b.into()) } else { plan.between(a.into(), b.into()) };
+        let halves = |(reports, records): (u64, u64)| [reports, records >> 32, records & 0xFFFF_FFFF];
+        let wanted = wanted.map(halves);
+        self.outcome(&format!("{name}, from {a} to {b}"), got, reference.map(halves), wanted);
+        if wanted.is_err() && got == expected(wanted, [HELD; 3]) {
+            let again = self.library.refused_between(kind, numbers, [a, b]);
+            self.holds(format!("library, {name}, from {a} to {b} again: {again}"), again == got.answer);
+        }
+    }
+
+    /// A plan that is not proper: every call that takes one gives 11, whatever else it is asked, and writes nothing.
+    pub fn improper(&mut self, name: &str, plan: Plan) {
+        let (kind, numbers) = handed(&plan);
+        self.improper_numbers(name, kind, numbers);
+        let reference = [plan.report(0).err(), plan.last_report(0).err(), plan.nearest_report(0).err(), plan.between(1, 0).err()];
+        self.holds(format!("reference, {name}: {reference:?}, not 11"), reference == [Some(11); 4]);
+    }
+
     /// A kind that is neither of the two, which the reference does not have.
     pub fn unknown_kind(&mut self, kind: u32, numbers: [u32; 3]) {
-        let got = self.library.report(kind, numbers, 0, [HELD; 3]);
-        self.holds(format!("library, kind {kind}: {got:?}"), got == expected(Err(11), [HELD; 3]));
+        self.improper_numbers(&format!("kind {kind}"), kind, numbers);
+    }
+
+    /// What is refused rightly is refused again where nothing can be written.
+    fn improper_numbers(&mut self, name: &str, kind: u32, numbers: [u32; 3]) {
+        let (one, three) = (expected(Err(11), [HELD]), expected(Err(11), [HELD; 3]));
+        for minute in [0, 1, 20_160, u32::MAX] {
+            let got = (
+                self.library.report(kind, numbers, minute, [HELD; 3]),
+                self.library.last_report(kind, numbers, minute, [HELD]),
+                self.library.nearest_report(kind, numbers, minute, [HELD]),
+            );
+            let refused = got == (three, one, one) && self.library.refused_minute(kind, numbers, minute) == [11; 2];
+            self.holds(format!("library, {name}, report or minute {minute}: {got:?}, not 11"), refused);
+        }
+        // Backwards too: 11 comes before 23.
+        for minutes in [[0, 0], [0, 1], [0, u32::MAX], [1, 0], [u32::MAX, 0]] {
+            let got = self.library.between(kind, numbers, minutes, [HELD; 3]);
+            let refused = got == three && self.library.refused_between(kind, numbers, minutes) == 11;
+            self.holds(format!("library, {name}, between {minutes:?}: {got:?}, not 11"), refused);
+        }
     }
 
     /// The check of a cycle, on its pairs and, where they have a file, through the loader's call.
@@ -257,6 +313,11 @@ impl Checks {
 /// The path of a file in samples/.
 pub fn sample(name: &str) -> PathBuf {
     Path::new(env!("CARGO_MANIFEST_DIR")).join("../../samples").join(name)
+}
+
+/// A plan as a call takes it: its kind by number, and k, period and total.
+fn handed(plan: &Plan) -> (u32, [u32; 3]) {
+    (u32::from(plan.kind == Kind::Even), [plan.k, plan.period, plan.total].map(|n| n as u32))
 }
 
 /// What making a meter anew answers, and whether it leaves every byte of the former one.

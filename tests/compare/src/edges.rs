@@ -1,10 +1,11 @@
-//! The edges of document 01's conditions and rules, and of document 02's meter: what is just kept, and what breaks by one. Every
-//! answer is worked out by hand from the documents, and asked of the library and of the reference.
+//! The edges of document 01's conditions and rules, of document 02's way from a minute back to the report, and of its meter: what is
+//! just kept, and what breaks by one. Every answer is worked out by hand from the documents, and asked of the library and of the
+//! reference.
 
 use crate::checks::{self, both_rates, demand_only, no_rates, supply_only, Checks, Offer};
 use crate::group::Runner;
 use reference::feasibility::Failure::{Inconsistent, Refused};
-use reference::Spec;
+use reference::{Kind, Plan, Spec};
 
 pub fn all(runner: &mut Runner) {
     checks::group(runner, "edges of each condition of consistency", consistency);
@@ -14,6 +15,8 @@ pub fn all(runner: &mut Runner) {
     checks::group(runner, "edges of a cycle's ranges", ranges);
     checks::group(runner, "stretches just full and just thin", stretches);
     checks::group(runner, "cycle files cut off and too long", cut_or_over);
+    checks::group(runner, "minutes at, before, after and half way between reports", minutes);
+    checks::group(runner, "reports just in and just out between two minutes", between);
     checks::group(runner, "offers too early, and of a size out of range", early_or_sized);
     checks::group(runner, "offers that just fit the budget", budgets);
     checks::group(runner, "offers up to the last minute", last_minutes);
@@ -344,6 +347,139 @@ fn cut_or_over(checks: &mut Checks) {
     ];
     for (name, file, places, wanted) in rows {
         checks.read(&format!("{name}, and bytes over"), file, places, Err(wanted));
+    }
+}
+
+fn well(k: u64, period: u64, total: u64) -> Plan {
+    Plan { kind: Kind::WellFormed, k, period, total }
+}
+
+fn even(k: u64, period: u64, total: u64) -> Plan {
+    Plan { kind: Kind::Even, k, period, total }
+}
+
+const LAST: u32 = u32::MAX;
+
+fn minutes(checks: &mut Checks) {
+    // Gaps 3, 4: minutes 0, 3, 7, 10, 14. Gaps 1, 2: minutes 0, 1, 3, 4, 6. The halves of the longer ones are minutes.
+    let by_minute: [(Plan, &[(u64, u64)]); 5] = [
+        (
+            well(2, 7, 5),
+            &[(0, 0), (0, 0), (0, 1), (1, 1), (1, 1), (1, 1), (1, 2), (2, 2), (2, 2), (2, 3), (3, 3), (3, 3), (3, 3)],
+        ),
+        (well(2, 3, 5), &[(0, 0), (1, 1), (1, 1), (2, 2), (3, 3), (3, 3), (4, 4)]),
+        (even(2, 8, 5), &[(0, 0), (0, 0), (0, 0), (0, 1), (1, 1), (1, 1), (1, 1), (1, 2), (2, 2), (2, 2), (2, 2), (2, 3)]),
+        (even(1, 2, 1), &[(0, 0), (0, 0), (1, 1), (1, 1), (2, 2)]),
+        (even(3, 3, 3), &[(0, 0), (1, 1), (2, 2), (3, 3), (4, 4)]),
+    ];
+    for (plan, wanted) in by_minute {
+        for (minute, &wanted) in (0..).zip(wanted) {
+            checks.minute(&format!("{plan:?}"), plan, minute, wanted);
+        }
+    }
+    // 2^32 − 1 is 20,160 × 213,044 + 255, 20,001 × 214,737 + 12,558, 158 × 27,183,337 + 49, 3 × 1,431,655,765, and odd.
+    let last = u64::from(LAST);
+    let far = [
+        ("gap 1", well(1, 1, 1), LAST, (last, last)),
+        ("gap 1", well(1, 1, 1), LAST - 1, (last - 1, last - 1)),
+        ("gap 1, the largest k", well(20_160, 20_160, 20_160), LAST, (last, last)),
+        ("even, gap 1", even(1, 1, 1_000), LAST, (last, last)),
+        ("even, gap 1, the largest k", even(20_160, 20_160, 20_160_000), LAST, (last, last)),
+        ("gap 2, half way to minute 2^32", well(1, 2, 1), LAST, (2_147_483_647, 2_147_483_647)),
+        ("even, gap 2, half way to minute 2^32", even(5, 10, 5), LAST, (2_147_483_647, 2_147_483_647)),
+        ("gap 3", well(1, 3, 1), LAST, (1_431_655_765, 1_431_655_765)),
+        ("gap 3", well(1, 3, 1), LAST - 1, (1_431_655_764, 1_431_655_765)),
+        ("gap 3", well(1, 3, 1), LAST - 2, (1_431_655_764, 1_431_655_764)),
+        ("gaps 1, 2", well(2, 3, 2), LAST, (2_863_311_530, 2_863_311_530)),
+        ("gaps 1, 2, half way", well(2, 3, 2), LAST - 1, (2_863_311_529, 2_863_311_529)),
+        ("gaps 1, 2", well(2, 3, 2), LAST - 2, (2_863_311_529, 2_863_311_529)),
+        // The next reports lie past 2^32, at 4,294,974,738 and 4,294,967,298.
+        ("nearest past 2^32", well(1, 20_001, 1), LAST, (214_737, 214_738)),
+        ("even, nearest past 2^32", even(1, 20_001, 1), LAST, (214_737, 214_738)),
+        ("A, nearest past 2^32", well(3, 158, 17), LAST, (81_550_011, 81_550_012)),
+        ("the longest gap", well(1, 20_160, 1_000), LAST, (213_044, 213_044)),
+        ("the longest gap", well(1, 20_160, 1_000), LAST - 255, (213_044, 213_044)),
+        ("the longest gap", well(1, 20_160, 1_000), LAST - 256, (213_043, 213_044)),
+        ("the longest gap, half way", well(1, 20_160, 1_000), LAST - 255 - 10_080, (213_043, 213_043)),
+        ("all at the top", well(20_160, 406_425_600, 20_160_000), LAST, (213_044, 213_044)),
+        ("even, all at the top", even(20_160, 406_425_600, 20_160_000), LAST, (213_044, 213_044)),
+        // One longer gap, the last of the period; all gaps longer but the first.
+        ("the largest k, one longer gap", well(20_160, 20_161, 20_160), 20_160, (20_159, 20_159)),
+        ("the largest k, one longer gap", well(20_160, 20_161, 20_160), 20_161, (20_160, 20_160)),
+        ("the largest k, one shorter gap", well(20_160, 40_319, 20_160), 1, (1, 1)),
+        ("the largest k, one shorter gap", well(20_160, 40_319, 20_160), 40_318, (20_159, 20_159)),
+        ("the largest k, one shorter gap", well(20_160, 40_319, 20_160), 40_319, (20_160, 20_160)),
+    ];
+    for (name, plan, minute, wanted) in far {
+        checks.minute(name, plan, minute, wanted);
+    }
+}
+
+fn between(checks: &mut Checks) {
+    // Gaps 3, 4 and sizes 3, 2.
+    let plan = well(2, 7, 5);
+    for (minutes, wanted) in [
+        ((0, 0), (0, 0)),
+        ((0, 1), (1, 3)),
+        ((0, 3), (1, 3)),
+        ((0, 4), (2, 5)),
+        ((1, 3), (0, 0)),
+        ((1, 4), (1, 2)),
+        ((3, 3), (0, 0)),
+        ((3, 7), (1, 2)),
+        ((3, 8), (2, 5)),
+        ((4, 7), (0, 0)),
+        ((7, 14), (2, 5)),
+        ((8, 15), (2, 5)),
+        ((10, 15), (2, 5)),
+        ((0, 700), (200, 500)),
+        ((0, 701), (201, 503)),
+        ((LAST, LAST), (0, 0)),
+    ] {
+        checks.between("gaps 3, 4", plan, minutes, Ok(wanted));
+    }
+    for minutes in [(1, 0), (4, 3), (LAST, 0), (LAST, LAST - 1)] {
+        checks.between("backwards", plan, minutes, Err(23));
+        checks.between("even, backwards", even(2, 8, 5), minutes, Err(23));
+    }
+    // Sizes 4, 3, 3; and 4, 4, 3.
+    for (total, minutes, wanted) in [
+        (10, (0, 1), (1, 4)),
+        (10, (1, 3), (2, 6)),
+        (10, (2, 4), (2, 7)),
+        (11, (1, 3), (2, 7)),
+        (11, (2, 4), (2, 7)),
+        (11, (1, 4), (3, 11)),
+    ] {
+        checks.between("even, three sizes", even(3, 3, total), minutes, Ok(wanted));
+        checks.between("three sizes", well(3, 3, total), minutes, Ok(wanted));
+    }
+    // 2^32 − 1 is 20,160 × 213,044 + 255, and 158 × 27,183,337 + 49.
+    let far = [
+        ("gap 1", well(1, 1, 1), (0, LAST), (4_294_967_295, 4_294_967_295)),
+        ("gap 1, 1,000 records", well(1, 1, 1_000), (0, LAST), (4_294_967_295, 4_294_967_295_000)),
+        ("even, gap 1, 1,000 records", even(1, 1, 1_000), (0, LAST), (4_294_967_295, 4_294_967_295_000)),
+        ("even, the largest k and total", even(20_160, 20_160, 20_160_000), (0, LAST), (4_294_967_295, 4_294_967_295_000)),
+        ("the largest k and total", well(20_160, 20_160, 20_160_000), (1, LAST), (4_294_967_294, 4_294_967_294_000)),
+        // Of every period one report has a record less, or one more; or half of them have, the first half or every other.
+        ("one record less", well(20_160, 20_160, 20_159_999), (0, LAST), (4_294_967_295, 4_294_967_081_956)),
+        ("even, one record less", even(20_160, 20_160, 20_159_999), (0, LAST), (4_294_967_295, 4_294_967_081_956)),
+        ("one record more", well(20_160, 20_160, 20_161), (0, LAST), (4_294_967_295, 4_295_180_340)),
+        ("even, one record more", even(20_160, 20_160, 20_161), (0, LAST), (4_294_967_295, 4_295_180_340)),
+        ("half of them more", well(20_160, 20_160, 30_240), (LAST - 255, LAST), (255, 510)),
+        ("even, half of them more", even(20_160, 20_160, 30_240), (LAST - 255, LAST), (255, 383)),
+        ("even, half of them more", even(20_160, 20_160, 30_240), (LAST - 254, LAST), (254, 381)),
+        ("A", well(3, 158, 17), (0, LAST), (81_550_012, 462_116_735)),
+        ("the longest gap", well(1, 20_160, 1_000), (0, LAST), (213_045, 213_045_000)),
+        ("the longest gap", well(1, 20_160, 1_000), (0, LAST - 255), (213_044, 213_044_000)),
+        ("the longest gap", well(1, 20_160, 1_000), (LAST - 255, LAST), (1, 1_000)),
+        ("the longest gap", well(1, 20_160, 1_000), (LAST - 254, LAST), (0, 0)),
+        ("all at the top", well(20_160, 406_425_600, 20_160_000), (0, LAST), (213_045, 213_045_000)),
+        ("even, all at the top", even(20_160, 406_425_600, 20_160_000), (0, LAST), (213_045, 213_045_000)),
+        ("a whole long period", well(20_160, 406_425_599, 20_159_999), (1, 406_425_600), (20_160, 20_159_999)),
+    ];
+    for (name, plan, minutes, wanted) in far {
+        checks.between(name, plan, minutes, Ok(wanted));
     }
 }
 

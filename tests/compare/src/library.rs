@@ -1,4 +1,4 @@
-//! The twelve calls of include/maxeltu.h, each wrapped so that its answer can be compared whole: every place that it was lent is
+//! The fifteen calls of include/maxeltu.h, each wrapped so that its answer can be compared whole: every place that it was lent is
 //! handed back with what it holds afterwards, and what it should only have read is looked at again.
 
 use crate::fence::Fence;
@@ -14,6 +14,9 @@ extern "C" {
     fn maxeltu_test(spec: *const u8, spec_len: usize, condition: *mut u32, k: *mut u32, period: *mut u32, total: *mut u32, supply: *mut u32) -> u32;
     fn maxeltu_even_plan(spec: *const u8, spec_len: usize, k: *mut u32, period: *mut u32, total: *mut u32) -> u32;
     fn maxeltu_report(kind: u32, k: u32, period: u32, total: u32, i: u32, minute: *mut u64, size: *mut u32) -> u32;
+    fn maxeltu_last_report(kind: u32, k: u32, period: u32, total: u32, minute: u32, number: *mut u32) -> u32;
+    fn maxeltu_nearest_report(kind: u32, k: u32, period: u32, total: u32, minute: u32, number: *mut u32) -> u32;
+    fn maxeltu_between(kind: u32, k: u32, period: u32, total: u32, a: u32, b: u32, reports: *mut u32, records: *mut u64) -> u32;
     fn maxeltu_check_cycle(spec: *const u8, spec_len: usize, pairs: *const Pair, count: usize) -> u32;
     fn maxeltu_read_cycle(file: *const u8, file_len: usize, pairs: *mut Pair, places: usize, count: *mut u32) -> u32;
     fn maxeltu_write_cycle(pairs: *const Pair, count: usize, file: *mut u8, room: usize, written: *mut u32) -> u32;
@@ -33,6 +36,8 @@ pub struct Library {
     spec: Fence<u8>,
     file: Fence<u8>,
     pairs: Fence<Pair>,
+    number: Fence<u32>,
+    records: Fence<u64>,
     meter: Fence<Meter>,
     left: Fence<u32>,
 }
@@ -48,6 +53,8 @@ impl Library {
             spec: Fence::new(PAGES),
             file: Fence::new(PAGES),
             pairs: Fence::new(PAGES),
+            number: Fence::new(1),
+            records: Fence::new(1),
             meter: Fence::new(2),
             left: Fence::new(1),
         }
@@ -108,6 +115,48 @@ impl Library {
         let mut size = before[2];
         let answer = unsafe { maxeltu_report(kind, k, period, total, i, &mut minute, &mut size) };
         Outcome { answer, places: [(minute >> 32) as u32, minute as u32, size] }
+    }
+
+    /// The place is the report's number.
+    pub fn last_report(&mut self, kind: u32, [k, period, total]: [u32; 3], minute: u32, before: [u32; 1]) -> Outcome<1> {
+        let number = self.number.lend(&before);
+        let answer = unsafe { maxeltu_last_report(kind, k, period, total, minute, number) };
+        Outcome { answer, places: [self.number.held(1)[0]] }
+    }
+
+    /// The place is the report's number.
+    pub fn nearest_report(&mut self, kind: u32, [k, period, total]: [u32; 3], minute: u32, before: [u32; 1]) -> Outcome<1> {
+        let number = self.number.lend(&before);
+        let answer = unsafe { maxeltu_nearest_report(kind, k, period, total, minute, number) };
+        Outcome { answer, places: [self.number.held(1)[0]] }
+    }
+
+    /// The places are the reports, and the high and the low half of the records.
+    pub fn between(&mut self, kind: u32, [k, period, total]: [u32; 3], [a, b]: [u32; 2], before: [u32; 3]) -> Outcome<3> {
+        let reports = self.number.lend(&before[..1]);
+        let records = self.records.lend(&[u64::from(before[1]) << 32 | u64::from(before[2])]);
+        let answer = unsafe { maxeltu_between(kind, k, period, total, a, b, reports, records) };
+        let (reports, records) = (self.number.held(1)[0], self.records.held(1)[0]);
+        Outcome { answer, places: [reports, (records >> 32) as u32, records as u32] }
+    }
+
+    /// What is asked of a plan's minute is refused: the last report and the nearest, whose number has a place where nothing can be
+    /// written.
+    pub fn refused_minute(&mut self, kind: u32, [k, period, total]: [u32; 3], minute: u32) -> [u32; 2] {
+        self.number.sealed(&[0], |number| unsafe {
+            [
+                maxeltu_last_report(kind, k, period, total, minute, number),
+                maxeltu_nearest_report(kind, k, period, total, minute, number),
+            ]
+        })
+    }
+
+    /// The same of two minutes.
+    pub fn refused_between(&mut self, kind: u32, [k, period, total]: [u32; 3], [a, b]: [u32; 2]) -> u32 {
+        let Library { number, records, .. } = self;
+        number.sealed(&[0], |reports| {
+            records.sealed(&[0], |records| unsafe { maxeltu_between(kind, k, period, total, a, b, reports, records) })
+        })
     }
 
     pub fn check_cycle(&mut self, spec: &[u8], pairs: &[Pair]) -> u32 {

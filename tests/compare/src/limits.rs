@@ -199,6 +199,12 @@ fn plans(checks: &mut Checks) {
         ("even, total 1,000 k", even(4, 20, 4_000), 3, Ok((15, 1_000))),
         ("total 1,000 k + 1", well(4, 20, 4_001), 0, Err(11)),
         ("even, total 1,000 k + 1", even(4, 20, 4_001), 0, Err(11)),
+        ("the largest k, period 20,160 k + 1", well(20_160, 406_425_601, 20_160), 0, Err(11)),
+        ("the largest k, total 1,000 k + 1", well(20_160, 20_160, 20_160_001), 0, Err(11)),
+        ("even, the largest k, total 1,000 k + 1", even(20_160, 20_160, 20_160_001), 0, Err(11)),
+        ("period 2^32 − 1", well(4, LAST.into(), 10), 0, Err(11)),
+        ("total 2^32 − 1", well(4, 20, LAST.into()), 0, Err(11)),
+        ("even, total 2^32 − 1", even(4, 20, LAST.into()), 0, Err(11)),
         // Gaps 5, 5, 5, 6 and sizes 3, 3, 2, 2. The even kind has one gap, so k must divide the period.
         ("period no multiple of k", well(4, 21, 10), 3, Ok((15, 2))),
         ("period no multiple of k", well(4, 21, 10), 4, Ok((21, 3))),
@@ -220,6 +226,9 @@ fn plans(checks: &mut Checks) {
     ];
     for (name, plan, i, wanted) in rows {
         checks.report(name, plan, i, wanted);
+        if wanted.is_err() {
+            checks.improper(name, plan);
+        }
     }
     for kind in [2, 3, 256, LAST] {
         checks.unknown_kind(kind, [4, 20, 10]);

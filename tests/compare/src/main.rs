@@ -17,6 +17,7 @@ mod group;
 mod library;
 mod limits;
 mod meters;
+mod moments;
 mod offers;
 mod program;
 mod random;
@@ -47,6 +48,7 @@ fn main() {
             calls::reference_itself(&mut runner);
             exhaustive::all(&mut runner);
             calls::all(&mut runner);
+            moments::all(&mut runner);
             meters::all(&mut runner);
         }
         ["evenplan", program] => program::all(&mut runner, program.as_ref()),

@@ -20,7 +20,60 @@ pub fn all(runner: &mut Runner) {
         samples_c_d_e(checks);
         sample_f(checks);
     });
+    checks::group(runner, "samples of plans, from a minute back to the report", minutes);
     checks::group(runner, "samples of meters", meters);
+}
+
+/// Samples A and B with 15, by the reports that document 01 names and the sizes of document 02, Req 02.
+fn minutes(checks: &mut Checks) {
+    let a = Plan { kind: Kind::WellFormed, k: 3, period: 158, total: 17 };
+    let a_even = Plan { kind: Kind::Even, period: 156, ..a };
+    let b15 = Plan { kind: Kind::Even, k: 4, period: 20, total: 10 };
+    // Minutes 0, 52, 105, 158, 210: of 26 and 184, both neighbours are 26 minutes away.
+    for (minute, wanted) in [
+        (0, (0, 0)),
+        (26, (0, 0)),
+        (27, (0, 1)),
+        (51, (0, 1)),
+        (52, (1, 1)),
+        (78, (1, 1)),
+        (79, (1, 2)),
+        (104, (1, 2)),
+        (105, (2, 2)),
+        (131, (2, 2)),
+        (132, (2, 3)),
+        (157, (2, 3)),
+        (158, (3, 3)),
+        (184, (3, 3)),
+        (185, (3, 4)),
+    ] {
+        checks.minute("A", a, minute, wanted);
+    }
+    for (minute, wanted) in [(103, (1, 2)), (104, (2, 2)), (130, (2, 2)), (131, (2, 3)), (156, (3, 3))] {
+        checks.minute("A, even", a_even, minute, wanted);
+    }
+    for (minute, wanted) in [(2, (0, 0)), (3, (0, 1)), (4, (0, 1)), (5, (1, 1)), (22, (4, 4)), (23, (4, 5))] {
+        checks.minute("B with 15, even", b15, minute, wanted);
+    }
+    // Sizes 6, 6, 5.
+    for (minutes, wanted) in [
+        ((0, 52), (1, 6)),
+        ((0, 53), (2, 12)),
+        ((1, 52), (0, 0)),
+        ((52, 158), (2, 11)),
+        ((52, 159), (3, 17)),
+        ((53, 158), (1, 5)),
+        ((0, 158), (3, 17)),
+        ((105, 263), (3, 17)),
+        ((105, 264), (4, 22)),
+    ] {
+        checks.between("A", a, minutes, Ok(wanted));
+    }
+    checks.between("A", a, (53, 52), Err(23));
+    // Sizes 3, 2, 3, 2.
+    for (minutes, wanted) in [((0, 5), (1, 3)), ((5, 10), (1, 2)), ((5, 20), (3, 7)), ((1, 21), (4, 10)), ((15, 25), (2, 5))] {
+        checks.between("B with 15, even", b15, minutes, Ok(wanted));
+    }
 }
 
 fn meters(checks: &mut Checks) {

@@ -9,6 +9,7 @@ pub mod even;
 pub mod feasibility;
 pub mod file;
 pub mod meter;
+pub mod moments;
 pub mod plan;
 pub mod schedule;
 pub mod spec;
