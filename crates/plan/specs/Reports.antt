@@ -13,6 +13,6 @@ use Rattle.plan.specs.Plans.{proper, run}
 unfoldable pub reportOf : Plan → ℕ → Reported
 reportOf p i = cond (proper p) (At (minute (run p) i) (run p .size i)) (Refused 11)
 
--- a number of reports or records of the plan's endless run, or the same refusal
+-- a number of records of the plan's endless run, or the same refusal
 unfoldable pub countOf : Plan → ℕ → Counted
 countOf p n = cond (proper p) (Count n) (NotCounted 11)

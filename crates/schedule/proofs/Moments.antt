@@ -5,7 +5,7 @@ use Prim.Native.Nat.{ℕ, zero, suc, _+_, _-_, _≤_, _<_}
 use native.Mathlib.Omega.{arith}
 use native.Mathlib.Nat.{sub-zero, mul-one}
 use mathlib.Core.Path.{_≡_, refl, sym, _∙_}
-use mathlib.Core.Logic.{⊎-elim}
+use mathlib.Core.Logic.{_⊎_, inl, inr, ⊎-elim}
 use mathlib.Core.Bool.{Bool, true, false, cond}
 use lib.Dec.{leb, ltb}
 use borrow.Author.Tests.{le-leb, leb-true, ltb-true, ltb-false}
@@ -127,27 +127,32 @@ module _ (s : Schedule) (later : (i : ℕ) → 1 ≤ s .gap i) (m : ℕ) where
   pub last-small : lastReport s m ≤ m
   last-small = omega (arith, last-before, minute-least s later (lastReport s m))
 
+  -- every report is as far away as the last, or as the next
+  no-nearer : (j : ℕ) → (m - minute s (lastReport s m) ≤ distance (minute s j) m) ⊎ (minute s (lastReport s m + 1) - m ≤ distance (minute s j) m)
+  no-nearer j =
+      let i = lastReport s m in
+      ⊎-elim
+      (λ q. inr (omega (arith, next-after, minute-mono s (i + 1) j (omega arith))))
+      (λ q. inl (omega (arith, last-before, minute-mono s j i q)))
+      (lt-cases i j)
+
   -- the last is the nearest where the next is no nearer, else the next
   pub nearest-last : m - minute s (lastReport s m) ≤ minute s (lastReport s m + 1) - m → nearestReport s m ≡ lastReport s m
   nearest-last h =
       let i = lastReport s m in
-      let a = last-before in
-      let n = next-after in
       nearest-found i
       (record {
-        nearest = λ j. ⊎-elim (λ q. omega (arith, minute-mono s (i + 1) j (omega arith))) (λ q. omega (arith, minute-mono s j i q)) (lt-cases i j);
-        first = λ j q. omega (arith, minute-rise s later j i q);
+        nearest = λ j. ⊎-elim (λ q. omega (arith, last-before)) (λ q. omega (arith, last-before)) (no-nearer j);
+        first = λ j q. omega (arith, last-before, minute-rise s later j i q);
       })
 
   pub nearest-next : minute s (lastReport s m + 1) - m < m - minute s (lastReport s m) → nearestReport s m ≡ lastReport s m + 1
   nearest-next h =
       let i = lastReport s m in
-      let a = last-before in
-      let n = next-after in
       nearest-found (i + 1)
       (record {
-        nearest = λ j. ⊎-elim (λ q. omega (arith, minute-mono s (i + 1) j (omega arith))) (λ q. omega (arith, minute-mono s j i q)) (lt-cases i j);
-        first = λ j q. omega (arith, minute-mono s j i (omega arith));
+        nearest = λ j. ⊎-elim (λ q. omega (arith, next-after)) (λ q. omega (arith, next-after)) (no-nearer j);
+        first = λ j q. omega (arith, next-after, last-before, minute-mono s j i (omega arith));
       })
 
 module _ (s : Schedule) (later : (i : ℕ) → 1 ≤ s .gap i) where
