@@ -16,6 +16,7 @@ greatest passes (suc n) = elim (passes (suc n)) [ true ↦ suc n | false ↦ gre
 unfoldable pub lastReport : Schedule → ℕ → ℕ
 lastReport s m = greatest (λ i. leb (minute s i) m) m
 
+-- it is at or before the minute, and no greater number is
 pub record IsLast (s : Schedule) (m i : ℕ) : Type 0 where
   pub at-or-before : minute s i ≤ m
   pub greatest-one : (j : ℕ) → minute s j ≤ m → j ≤ i

@@ -1,4 +1,4 @@
--- The first four numbers name a plan, or none; then the places are those of the contents's answer.
+-- The first four numbers name a plan, or none; then the places are those of the answer with both counts.
 use mathlib.Core.Path.{refl}
 use Rattle.maxeltu.specs.Calls.{betweenCall}
 use Rattle.answers.specs.Answers.{contentsAnswer}
@@ -34,7 +34,8 @@ returns-2 : tie.Need-returns-2
 unfolding betweenCall
 returns-2 c =
     let named = c .before .before .before .before .before in
-    rw (of-named (named .before .before .before .args .kind) (named .before .before .before .args .k) (named .before .before .before .args .period) (named .before .before .before .args .total) (λ p. contentsAnswer (betweenOf p (named .before .before .before .args .a) (named .before .before .before .args .b))) (named .before .before .plan-named .ensures) (named .p .given .1), ← c .before .before .before .between .ensures) (c .contents-answer .ensures)
+    let start = named .before .before .before in
+    rw (of-named (start .args .kind) (start .args .k) (start .args .period) (start .args .total) (λ p. contentsAnswer (betweenOf p (start .args .a) (start .args .b))) (named .before .before .plan-named .ensures) (named .p .given .1), ← c .before .before .before .between .ensures) (c .contents-answer .ensures)
 
 pub maxeltu-between-spec : {M : Type 1} → statement M
 maxeltu-between-spec = tie.close (tie.spec plan-named-requires enum-known-p enum-told returns between-requires contents-answer-requires returns-2)

@@ -34,7 +34,8 @@ returns-2 : tie.Need-returns-2
 unfolding reportCall
 returns-2 c =
     let named = c .before .before .before .before .before in
-    rw (of-named (named .before .before .before .args .kind) (named .before .before .before .args .k) (named .before .before .before .args .period) (named .before .before .before .args .total) (λ p. reportAnswer (reportOf p (named .before .before .before .args .i))) (named .before .before .plan-named .ensures) (named .p .given .1), ← c .before .before .before .report .ensures) (c .report-answer .ensures)
+    let start = named .before .before .before in
+    rw (of-named (start .args .kind) (start .args .k) (start .args .period) (start .args .total) (λ p. reportAnswer (reportOf p (start .args .i))) (named .before .before .plan-named .ensures) (named .p .given .1), ← c .before .before .before .report .ensures) (c .report-answer .ensures)
 
 pub maxeltu-report-spec : {M : Type 1} → statement M
 maxeltu-report-spec = tie.close (tie.spec plan-named-requires enum-known-p enum-told returns report-requires report-answer-requires returns-2)

@@ -5,8 +5,6 @@ use Rattle.plan.proofs.PlanMoments.{not-told, backwards, fronts-rise, t
 use borrow.Author.Needs.{needs}
 use Rattle.plan.proofs.moments.between.Statement.{statement}
 use Rattle.plan.proofs.moments.between.Tie as tie
-use Rattle.plan.proofs.is_proper.Reads as is-proper-reads
-use Rattle.plan.proofs.moments.front_of.Reads as front-of-reads
 
 is-proper-requires : tie.Need-is-proper-requires
 is-proper-requires c κs = search needs
@@ -24,16 +22,31 @@ front-of-requires-2 : tie.Need-front-of-requires-2
 front-of-requires-2 c κs = ((sym (c .before .before .before .is-proper .ensures) ∙ not-false _ (c .before .before .if1 .left)), search needs)
 
 sub-t8 : tie.Need-sub-t8
-sub-t8 c = fronts-rise _ (sym (c .before .before .before .before .before .before .is-proper .ensures) ∙ not-false _ (c .before .before .before .before .before .if1 .left)) _ _ (c .before .before .before .before .if2 .left) (c .before .before .before .front-of .ensures .0) (c .before .before .front-of2 .ensures .0) (c .before .before .before .front-of .ensures .2) (c .before .before .front-of2 .ensures .2) .0
+sub-t8 c =
+    let both = c .before .before in
+    let ok = sym (both .before .before .before .before .is-proper .ensures) ∙ not-false _ (both .before .before .before .if1 .left) in
+    let a = both .before .front-of .ensures in
+    let b = both .front-of2 .ensures in
+    fronts-rise _ ok _ _ (both .before .before .if2 .left) (a .0) (b .0) (a .2) (b .2) .0
 
 cast-t9 : tie.Need-cast-t9
 cast-t9 c = search needs
 
 sub-t10 : tie.Need-sub-t10
-sub-t10 c = fronts-rise _ (sym (c .before .before .before .before .before .before .before .before .is-proper .ensures) ∙ not-false _ (c .before .before .before .before .before .before .before .if1 .left)) _ _ (c .before .before .before .before .before .before .if2 .left) (c .before .before .before .before .before .front-of .ensures .0) (c .before .before .before .before .front-of2 .ensures .0) (c .before .before .before .before .before .front-of .ensures .2) (c .before .before .before .before .front-of2 .ensures .2) .1
+sub-t10 c =
+    let both = c .before .before .before .before in
+    let ok = sym (both .before .before .before .before .is-proper .ensures) ∙ not-false _ (both .before .before .before .if1 .left) in
+    let a = both .before .front-of .ensures in
+    let b = both .front-of2 .ensures in
+    fronts-rise _ ok _ _ (both .before .before .if2 .left) (a .0) (b .0) (a .2) (b .2) .1
 
 returns-3 : tie.Need-returns-3
-returns-3 c = told-between _ (sym (c .before .before .before .before .before .before .before .before .is-proper .ensures) ∙ not-false _ (c .before .before .before .before .before .before .before .if1 .left)) _ _ (c .before .before .before .before .before .before .if2 .left) (c .before .before .before .before .before .front-of .ensures .0) (c .before .before .before .before .front-of2 .ensures .0) (c .before .before .before .before .before .front-of .ensures .2) (c .before .before .before .before .front-of2 .ensures .2)
+returns-3 c =
+    let both = c .before .before .before .before in
+    let ok = sym (both .before .before .before .before .is-proper .ensures) ∙ not-false _ (both .before .before .before .if1 .left) in
+    let a = both .before .front-of .ensures in
+    let b = both .front-of2 .ensures in
+    told-between _ ok _ _ (both .before .before .if2 .left) (a .0) (b .0) (a .2) (b .2)
 
 pub between-spec : {M : Type 1} → statement M
 between-spec =

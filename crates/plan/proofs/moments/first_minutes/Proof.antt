@@ -6,8 +6,6 @@ use Rattle.plan.proofs.PlanMoments.{not-told, told}
 use borrow.Author.Needs.{needs}
 use Rattle.plan.proofs.moments.first_minutes.Statement.{statement}
 use Rattle.plan.proofs.moments.first_minutes.Tie as tie
-use Rattle.plan.proofs.is_proper.Reads as is-proper-reads
-use Rattle.plan.proofs.moments.front_of.Reads as front-of-reads
 
 is-proper-requires : tie.Need-is-proper-requires
 is-proper-requires c κs = search needs

@@ -3,8 +3,6 @@ use Rattle.plan.proofs.PlanMoments.{front-held}
 use borrow.Author.Needs.{needs}
 use Rattle.plan.proofs.moments.front_of.Statement.{statement}
 use Rattle.plan.proofs.moments.front_of.Tie as tie
-use Rattle.plan.proofs.count_before.Reads as count-before-reads
-use Rattle.plan.proofs.held_by_first.Reads as held-by-first-reads
 
 count-before-requires : tie.Need-count-before-requires
 count-before-requires c κs = search needs

@@ -4,7 +4,6 @@ use Rattle.plan.proofs.PlanMoments.{last-of-those}
 use borrow.Author.Needs.{needs}
 use Rattle.plan.proofs.moments.last_at.Statement.{statement}
 use Rattle.plan.proofs.moments.last_at.Tie as tie
-use Rattle.plan.proofs.count_before.Reads as count-before-reads
 
 add-count-before : tie.Need-add-count-before
 add-count-before c = search needs

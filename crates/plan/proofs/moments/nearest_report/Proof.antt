@@ -5,8 +5,6 @@ use Rattle.plan.proofs.PlanMoments.{no-number, numbered}
 use borrow.Author.Needs.{needs}
 use Rattle.plan.proofs.moments.nearest_report.Statement.{statement}
 use Rattle.plan.proofs.moments.nearest_report.Tie as tie
-use Rattle.plan.proofs.is_proper.Reads as is-proper-reads
-use Rattle.plan.proofs.moments.nearest_to.Reads as nearest-to-reads
 
 is-proper-requires : tie.Need-is-proper-requires
 is-proper-requires c κs = search needs
