@@ -16,6 +16,8 @@ use Rattle.families.specs.Families.{scheduleFor}
 use Rattle.feasibility.specs.Test.{testOf}
 use Rattle.even.specs.Even.{evenPlan}
 use Rattle.answers.specs.Answers.{Answer, refusal, consistencyAnswer, scheduledAnswer, testedAnswer, evenAnswer, reportAnswer, numberAnswer, contentsAnswer}
+use Rattle.maxeltu.specs.declared.Named.{Named}
+use Rattle.maxeltu.specs.declared.Named.the-variants.{Plan as NamedPlan, NoKind}
 
 unfoldable pub consistencyCall : List ℕ → Answer
 consistencyCall bytes = ifRead (readSpec bytes) (λ s. consistencyAnswer (consistencyOf s)) refusal
@@ -29,18 +31,23 @@ testCall bytes = ifRead (readSpec bytes) (λ s. testedAnswer (testOf s)) refusal
 unfoldable pub evenCall : List ℕ → Answer
 evenCall bytes = ifRead (readSpec bytes) (λ s. evenAnswer (evenPlan s)) refusal
 
--- a call on a plan: kind 0 is the well-formed kind, 1 the even kind; no other number names a kind, so there is no proper plan of it
-unfoldable pub ofPlan : (kind k π δ : ℕ) → (Plan → Answer) → Answer
-ofPlan kind k π δ call = cond (eqb kind 0) (call (planOf WellFormed k π δ)) (cond (eqb kind 1) (call (planOf Even k π δ)) (refusal 11))
+-- the plan of these numbers: kind 0 is the well-formed kind, 1 the even kind; no other number names a kind
+unfoldable pub planNamed : (kind k π δ : ℕ) → Named
+planNamed kind k π δ = cond (eqb kind 0) (NamedPlan (planOf WellFormed k π δ)) (cond (eqb kind 1) (NamedPlan (planOf Even k π δ)) NoKind)
+
+-- a call on a plan; of no kind there is no proper plan
+abbrev pub ifNamed : Named → (Plan → Answer) → Answer
+ifNamed (NamedPlan p) call = call p
+ifNamed NoKind call = refusal 11
 
 unfoldable pub reportCall : (kind k π δ i : ℕ) → Answer
-reportCall kind k π δ i = ofPlan kind k π δ (λ p. reportAnswer (reportOf p i))
+reportCall kind k π δ i = ifNamed (planNamed kind k π δ) (λ p. reportAnswer (reportOf p i))
 
 unfoldable pub lastCall : (kind k π δ minute : ℕ) → Answer
-lastCall kind k π δ minute = ofPlan kind k π δ (λ p. numberAnswer (lastOf p minute))
+lastCall kind k π δ minute = ifNamed (planNamed kind k π δ) (λ p. numberAnswer (lastOf p minute))
 
 unfoldable pub nearestCall : (kind k π δ minute : ℕ) → Answer
-nearestCall kind k π δ minute = ofPlan kind k π δ (λ p. numberAnswer (nearestOf p minute))
+nearestCall kind k π δ minute = ifNamed (planNamed kind k π δ) (λ p. numberAnswer (nearestOf p minute))
 
 unfoldable pub betweenCall : (kind k π δ a b : ℕ) → Answer
-betweenCall kind k π δ a b = ofPlan kind k π δ (λ p. contentsAnswer (betweenOf p a b))
+betweenCall kind k π δ a b = ifNamed (planNamed kind k π δ) (λ p. contentsAnswer (betweenOf p a b))

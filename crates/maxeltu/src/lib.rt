@@ -22,8 +22,8 @@ ghost use Rattle.families.specs.declared.Family.the-variants.{MinimumDemand, Ma
 ghost use Rattle.meter.specs.Ring.{fresh, stepped, toldOr};
 ghost use Rattle.answers.specs.Answers.{heldAfter};
 ghost use Rattle.maxeltu.specs.Verdict.{verdictOf};
-ghost use Rattle.maxeltu.specs.InnerPromises.{planNamed, fileRead, countAfter};
-ghost use Rattle.maxeltu.specs.Calls.{consistencyCall, scheduleCall, testCall, evenCall, reportCall, lastCall, nearestCall, betweenCall};
+ghost use Rattle.maxeltu.specs.InnerPromises.{fileRead, countAfter};
+ghost use Rattle.maxeltu.specs.Calls.{consistencyCall, scheduleCall, testCall, evenCall, planNamed, reportCall, lastCall, nearestCall, betweenCall};
 
 // The loader's call: 0 exactly when both files are read and the cycle is passed, or the first number met, the specification's first.
 #[no_mangle]

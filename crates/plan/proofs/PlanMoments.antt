@@ -2,9 +2,10 @@
 use Prim.Native.Nat.{ℕ, _+_, _-_, _≤_, _<_}
 use native.Mathlib.Omega.{arith}
 use native.Mathlib.Nat.{sub-zero}
-use mathlib.Core.Path.{_≡_, sym, _∙_}
-use mathlib.Core.Bool.{true, false}
-use borrow.Author.Tests.{le-leb, lt-leb}
+use mathlib.Core.Path.{_≡_, refl, sym, _∙_}
+use mathlib.Core.Bool.{Bool, true, false, cond}
+use lib.Dec.{leb}
+use borrow.Author.Tests.{le-leb, lt-leb, leb-true}
 use Rattle.schedule.specs.Schedules.{sum, minute, stretch}
 use Rattle.schedule.specs.Moments.{lastReport, nearestReport, reportsFrom, recordsFrom}
 use Rattle.schedule.proofs.Moments.{last-before, next-after, last-small, nearest-last, nearest-next, records-add, records-first, reports-add, reports-first, reports-until}
@@ -37,6 +38,23 @@ module _ (p : Plan) where
   pub told : (a b : ℕ) {n d : ℕ} → proper p ≡ true → a ≤ b → n ≡ reportsFrom (run p) a b → d ≡ recordsFrom (run p) a b → Held n d ≡ betweenOf p a b
   unfolding betweenOf
   told a b ok h en ed = rw (ok, le-leb _ _ h, en, ed)
+
+  -- and back from what is told: the plan is proper, the order right, and the counts are those of the run
+  pub record Told (a b n d : ℕ) : Type 0 where
+    pub ok : proper p ≡ true
+    pub order : a ≤ b
+    pub reports : n ≡ reportsFrom (run p) a b
+    pub records : d ≡ recordsFrom (run p) a b
+
+  pub contents-told : (a b n d : ℕ) → betweenOf p a b ≡ Held n d → Told a b n d
+  unfolding betweenOf
+  contents-told a b n d = by (proper p) refl (leb a b) refl
+    where
+      by : (x : Bool) → proper p ≡ x → (y : Bool) → leb a b ≡ y
+          → cond x (cond y (Held (reportsFrom (run p) a b) (recordsFrom (run p) a b)) (NotCounted 23)) (NotCounted 11) ≡ Held n d → Told a b n d
+      by true ok true h e = record { ok = ok; order = leb-true a b h; reports = cc; records = cc }
+      by true ok false h e = absurd (let z : _≡_ {A = ℕ} 0 1 = cc in omega arith)
+      by false ok y h e = absurd (let z : _≡_ {A = ℕ} 0 1 = cc in omega arith)
 
 module _ (p : Plan) (ok : proper p ≡ true) where
   later : (i : ℕ) → 1 ≤ run p .gap i
@@ -75,26 +93,25 @@ module _ (p : Plan) (ok : proper p ≡ true) where
   module _ (a b : ℕ) (order : a ≤ b) {x y v w : ℕ}
       (ex : x ≡ reportsFrom (run p) 0 a) (ey : y ≡ reportsFrom (run p) 0 b)
       (ev : v ≡ recordsFrom (run p) 0 a) (ew : w ≡ recordsFrom (run p) 0 b) where
+    reports-more : x + reportsFrom (run p) a b ≡ y
+    reports-more = rw (ex, ey) (reports-add (run p) later 0 a b (omega arith) order)
+
+    records-more : v + recordsFrom (run p) a b ≡ w
+    records-more = rw (ev, ew) (records-add (run p) later 0 a b (omega arith) order)
+
     pub fronts-rise : (x ≤ y) × (v ≤ w)
-    fronts-rise = (omega (arith, reports-add (run p) later 0 a b (omega arith) order), omega (arith, records-add (run p) later 0 a b (omega arith) order))
+    fronts-rise = (omega (arith, reports-more), omega (arith, records-more))
 
     pub told-between : Held (y - x) (w - v) ≡ betweenOf p a b
-    told-between =
-        told p a b ok order
-        (omega (arith, reports-add (run p) later 0 a b (omega arith) order))
-        (omega (arith, records-add (run p) later 0 a b (omega arith) order))
+    told-between = told p a b ok order (omega (arith, reports-more)) (omega (arith, records-more))
 
   -- what the caller has of the first minutes
   pub first-told : (x : ℕ) {n d : ℕ} → betweenOf p 0 x ≡ Held n d → d ≡ stretch (run p) 0 x
-  unfolding betweenOf recordsFrom
-  first-told x {n} {d} e =
-      let told : Held _ (stretch (run p) 0 (x - 0)) ≡ Held n d = rw (ok, le-leb 0 x (omega arith)) at e in
-      let same : d ≡ stretch (run p) 0 (x - 0) = cc in
-      rw sub-zero at same
+  unfolding recordsFrom
+  first-told x {n} {d} e = rw sub-zero at (contents-told p 0 x n d e .records)
 
   pub first-never : (x : ℕ) {r : ℕ} → betweenOf p 0 x ≡ NotCounted r → ⊥
-  unfolding betweenOf
-  first-never x e =
-      let told : Held _ _ ≡ NotCounted _ = rw (ok, le-leb 0 x (omega arith)) at e in
+  first-never x {r} e =
+      let never : Held (reportsFrom (run p) 0 x) (recordsFrom (run p) 0 x) ≡ NotCounted r = told p 0 x ok (omega arith) refl refl ∙ e in
       let z : _≡_ {A = ℕ} 0 1 = cc in
       omega arith

@@ -5,8 +5,6 @@ use native.Mathlib.Omega.{arith}
 use mathlib.Core.Path.{_≡_, refl, sym, _∙_}
 use mathlib.Core.Logic.{_↔_}
 use mathlib.Core.Bool.{Bool, true, false, cond}
-use lib.Dec.{leb}
-use borrow.Author.Tests.{leb-true}
 use Rattle.schedule.specs.Schedules.{sum, minute, share}
 use Rattle.schedule.specs.Moments.{lastReport, IsLast, nearestReport, IsNearest, counted, reportsFrom, recordsFrom}
 use Rattle.schedule.proofs.StretchSum.{stretch-is-sum}
@@ -14,12 +12,12 @@ use Rattle.schedule.proofs.Moments.{last-is, last-found, last-back, nearest-is,
 use Rattle.plan.specs.declared.Plan.{Plan}
 use Rattle.plan.specs.declared.Reported.the-variants.{At, Refused as NotReported}
 use Rattle.plan.specs.declared.moments.Found.the-variants.{Number, Refused}
-use Rattle.plan.specs.declared.moments.Contents.the-variants.{Held, Refused as NotCounted}
+use Rattle.plan.specs.declared.moments.Contents.the-variants.{Held}
 use Rattle.plan.specs.Plans.{proper, run}
 use Rattle.plan.specs.Reports.{reportOf}
 use Rattle.plan.specs.Moments.{numberOf, lastOf, nearestOf, betweenOf}
 use Rattle.plan.proofs.Runs.{run-later}
-use Rattle.plan.proofs.PlanMoments.{numbered, told}
+use Rattle.plan.proofs.PlanMoments.{numbered, told, contents-told}
 
 module _ (p : Plan) where
   number-told : (n i : ℕ) → numberOf p n ≡ Number i → (proper p ≡ true) × (n ≡ i)
@@ -55,23 +53,6 @@ module _ (p : Plan) where
           )
       by false ok e = absurd (let z : _≡_ {A = ℕ} 0 1 = cc in omega arith)
 
-  -- what is told of some minutes: the plan is proper, their order right, and the counts are those of the run
-  record Told (a b n d : ℕ) : Type 0 where
-    ok : proper p ≡ true
-    order : a ≤ b
-    reports : n ≡ reportsFrom (run p) a b
-    records : d ≡ recordsFrom (run p) a b
-
-  contents-told : (a b n d : ℕ) → betweenOf p a b ≡ Held n d → Told a b n d
-  unfolding betweenOf
-  contents-told a b n d = by (proper p) refl (leb a b) refl
-    where
-      by : (x : Bool) → proper p ≡ x → (y : Bool) → leb a b ≡ y
-          → cond x (cond y (Held (reportsFrom (run p) a b) (recordsFrom (run p) a b)) (NotCounted 23)) (NotCounted 11) ≡ Held n d → Told a b n d
-      by true ok true h e = record { ok = ok; order = leb-true a b h; reports = cc; records = cc }
-      by true ok false h e = absurd (let z : _≡_ {A = ℕ} 0 1 = cc in omega arith)
-      by false ok y h e = absurd (let z : _≡_ {A = ℕ} 0 1 = cc in omega arith)
-
   -- the counts of the run are plain sums over the reports at those minutes, however many are looked at
   abbrev pub Sums : ℕ → ℕ → ℕ → ℕ → Type 0
   Sums a b n d = (more : ℕ) → (n ≡ sum (share (counted (run p)) a (b - a)) (b + more)) × (d ≡ sum (share (run p) a (b - a)) (b + more))
@@ -85,14 +66,14 @@ module _ (p : Plan) where
 
   pub between-exact : (a b n d : ℕ) → (betweenOf p a b ≡ Held n d) ↔ ((proper p ≡ true) × ((a ≤ b) × Sums a b n d))
   between-exact a b n d = (
-    λ e. let t = contents-told a b n d e in (t .ok, (t .order, rw (t .reports, t .records) (sums (t .ok) a b (t .order)))),
+    λ e. let t = contents-told p a b n d e in (t .ok, (t .order, rw (t .reports, t .records) (sums (t .ok) a b (t .order)))),
     λ (ok, (h, s)). sym (told p a b ok h (s 0 .0 ∙ sym (sums ok a b h 0 .0)) (s 0 .1 ∙ sym (sums ok a b h 0 .1))),
   )
 
   pub counts-add-up : (a b c n d n′ d′ : ℕ) → betweenOf p a b ≡ Held n d → betweenOf p b c ≡ Held n′ d′ → betweenOf p a c ≡ Held (n + n′) (d + d′)
   counts-add-up a b c n d n′ d′ e f =
-      let x = contents-told a b n d e in
-      let y = contents-told b c n′ d′ f in
+      let x = contents-told p a b n d e in
+      let y = contents-told p b c n′ d′ f in
       let later = run-later p (x .ok) in
       sym
       (told p a c (x .ok) (omega (arith, x .order, y .order))

@@ -1,10 +1,7 @@
 -- The first four numbers name a plan, or none; then the places are those of the answer with both counts.
 use mathlib.Core.Path.{refl}
 use Rattle.maxeltu.specs.Calls.{betweenCall}
-use Rattle.answers.specs.Answers.{contentsAnswer}
-use Rattle.plan.specs.Moments.{betweenOf}
 use Rattle.answers.proofs.Places.{after-refusal}
-use Rattle.maxeltu.proofs.GivenPlan.{of-named, of-none}
 use borrow.Author.Needs.{needs}
 use Rattle.maxeltu.proofs.maxeltu_between.Statement.{statement}
 use Rattle.maxeltu.proofs.maxeltu_between.Tie as tie
@@ -20,9 +17,7 @@ enum-told c = search needs
 
 returns : tie.Need-returns
 unfolding betweenCall
-returns c =
-    let start = c .before .before .before in
-    rw (of-none (start .args .kind) (start .args .k) (start .args .period) (start .args .total) (λ p. contentsAnswer (betweenOf p (start .args .a) (start .args .b))) (c .before .before .plan-named .ensures) (c .enum-told .given .1)) (refl, after-refusal _ _ _ _, after-refusal _ _ _ _)
+returns c = rw (← c .before .before .plan-named .ensures, c .enum-told .given .1) (refl, after-refusal _ _ _ _, after-refusal _ _ _ _)
 
 between-requires : tie.Need-between-requires
 between-requires c κs = search needs
@@ -34,8 +29,7 @@ returns-2 : tie.Need-returns-2
 unfolding betweenCall
 returns-2 c =
     let named = c .before .before .before .before .before in
-    let start = named .before .before .before in
-    rw (of-named (start .args .kind) (start .args .k) (start .args .period) (start .args .total) (λ p. contentsAnswer (betweenOf p (start .args .a) (start .args .b))) (named .before .before .plan-named .ensures) (named .p .given .1), ← c .before .before .before .between .ensures) (c .contents-answer .ensures)
+    rw (← named .before .before .plan-named .ensures, named .p .given .1, ← c .before .before .before .between .ensures) (c .contents-answer .ensures)
 
 pub maxeltu-between-spec : {M : Type 1} → statement M
 maxeltu-between-spec = tie.close (tie.spec plan-named-requires enum-known-p enum-told returns between-requires contents-answer-requires returns-2)

@@ -1,10 +1,7 @@
 -- The first four numbers name a plan, or none; then the places are those of the report's answer.
 use mathlib.Core.Path.{refl}
 use Rattle.maxeltu.specs.Calls.{reportCall}
-use Rattle.answers.specs.Answers.{reportAnswer}
-use Rattle.plan.specs.Reports.{reportOf}
 use Rattle.answers.proofs.Places.{after-refusal}
-use Rattle.maxeltu.proofs.GivenPlan.{of-named, of-none}
 use borrow.Author.Needs.{needs}
 use Rattle.maxeltu.proofs.maxeltu_report.Statement.{statement}
 use Rattle.maxeltu.proofs.maxeltu_report.Tie as tie
@@ -20,9 +17,7 @@ enum-told c = search needs
 
 returns : tie.Need-returns
 unfolding reportCall
-returns c =
-    let start = c .before .before .before in
-    rw (of-none (start .args .kind) (start .args .k) (start .args .period) (start .args .total) (λ p. reportAnswer (reportOf p (start .args .i))) (c .before .before .plan-named .ensures) (c .enum-told .given .1)) (refl, after-refusal _ _ _ _, after-refusal _ _ _ _)
+returns c = rw (← c .before .before .plan-named .ensures, c .enum-told .given .1) (refl, after-refusal _ _ _ _, after-refusal _ _ _ _)
 
 report-requires : tie.Need-report-requires
 report-requires c κs = search needs
@@ -34,8 +29,7 @@ returns-2 : tie.Need-returns-2
 unfolding reportCall
 returns-2 c =
     let named = c .before .before .before .before .before in
-    let start = named .before .before .before in
-    rw (of-named (start .args .kind) (start .args .k) (start .args .period) (start .args .total) (λ p. reportAnswer (reportOf p (start .args .i))) (named .before .before .plan-named .ensures) (named .p .given .1), ← c .before .before .before .report .ensures) (c .report-answer .ensures)
+    rw (← named .before .before .plan-named .ensures, named .p .given .1, ← c .before .before .before .report .ensures) (c .report-answer .ensures)
 
 pub maxeltu-report-spec : {M : Type 1} → statement M
 maxeltu-report-spec = tie.close (tie.spec plan-named-requires enum-known-p enum-told returns report-requires report-answer-requires returns-2)

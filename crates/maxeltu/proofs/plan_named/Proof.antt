@@ -1,6 +1,6 @@
 -- The number of the kind names it, or names none.
 use borrow.Author.Tests.{eq-eqb, ne-eqb}
-use Rattle.maxeltu.specs.InnerPromises.{planNamed}
+use Rattle.maxeltu.specs.Calls.{planNamed}
 use Rattle.maxeltu.proofs.plan_named.Statement.{statement}
 use Rattle.maxeltu.proofs.plan_named.Tie as tie
 
