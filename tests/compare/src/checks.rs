@@ -315,6 +315,16 @@ pub fn sample(name: &str) -> PathBuf {
     Path::new(env!("CARGO_MANIFEST_DIR")).join("../../samples").join(name)
 }
 
+/// A plan of the well-formed kind.
+pub fn well(k: u64, period: u64, total: u64) -> Plan {
+    Plan { kind: Kind::WellFormed, k, period, total }
+}
+
+/// A plan of the even kind.
+pub fn even(k: u64, period: u64, total: u64) -> Plan {
+    Plan { kind: Kind::Even, k, period, total }
+}
+
 /// A plan as a call takes it: its kind by number, and k, period and total.
 fn handed(plan: &Plan) -> (u32, [u32; 3]) {
     (u32::from(plan.kind == Kind::Even), [plan.k, plan.period, plan.total].map(|n| n as u32))

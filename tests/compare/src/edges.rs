@@ -2,10 +2,10 @@
 //! just kept, and what breaks by one. Every answer is worked out by hand from the documents, and asked of the library and of the
 //! reference.
 
-use crate::checks::{self, both_rates, demand_only, no_rates, supply_only, Checks, Offer};
+use crate::checks::{self, both_rates, demand_only, even, no_rates, supply_only, well, Checks, Offer};
 use crate::group::Runner;
 use reference::feasibility::Failure::{Inconsistent, Refused};
-use reference::{Kind, Plan, Spec};
+use reference::{Plan, Spec};
 
 pub fn all(runner: &mut Runner) {
     checks::group(runner, "edges of each condition of consistency", consistency);
@@ -348,14 +348,6 @@ fn cut_or_over(checks: &mut Checks) {
     for (name, file, places, wanted) in rows {
         checks.read(&format!("{name}, and bytes over"), file, places, Err(wanted));
     }
-}
-
-fn well(k: u64, period: u64, total: u64) -> Plan {
-    Plan { kind: Kind::WellFormed, k, period, total }
-}
-
-fn even(k: u64, period: u64, total: u64) -> Plan {
-    Plan { kind: Kind::Even, k, period, total }
 }
 
 const LAST: u32 = u32::MAX;

@@ -1,9 +1,9 @@
 //! The limits of document 01, each reached and each passed by one. Every answer is worked out by hand from the document, and
 //! asked of the library and of the reference.
 
-use crate::checks::{self, both_rates, demand_only, no_rates, supply_only, Checks};
+use crate::checks::{self, both_rates, demand_only, even, no_rates, supply_only, well, Checks};
 use crate::group::Runner;
-use reference::{spec, Kind, Plan, Spec};
+use reference::{spec, Spec};
 
 pub fn all(runner: &mut Runner) {
     checks::group(runner, "limits of each number of a specification", numbers);
@@ -169,8 +169,6 @@ fn maps(checks: &mut Checks) {
 }
 
 fn plans(checks: &mut Checks) {
-    let well = |k, period, total| Plan { kind: Kind::WellFormed, k, period, total };
-    let even = |k, period, total| Plan { kind: Kind::Even, k, period, total };
     const LAST: u32 = u32::MAX;
     let rows = [
         ("k 0", well(0, 0, 0), 0, Err(11)),

@@ -4,7 +4,7 @@
 use crate::checks::{self, both_rates, Checks, Offer};
 use crate::group::Runner;
 use reference::feasibility::Failure::Refused;
-use reference::{cycle, even, schedule, spec, Kind, Pair, Plan, Spec};
+use reference::{cycle, even, schedule, spec, Pair, Plan, Spec};
 
 /// The first reports of a plan, by minute and size.
 fn reports(checks: &mut Checks, name: &str, plan: Plan, wanted: &[(u64, u64)]) {
@@ -26,9 +26,7 @@ pub fn all(runner: &mut Runner) {
 
 /// Samples A and B with 15, by the reports that document 01 names and the sizes of document 02, Req 02.
 fn minutes(checks: &mut Checks) {
-    let a = Plan { kind: Kind::WellFormed, k: 3, period: 158, total: 17 };
-    let a_even = Plan { kind: Kind::Even, period: 156, ..a };
-    let b15 = Plan { kind: Kind::Even, k: 4, period: 20, total: 10 };
+    let (a, a_even, b15) = (checks::well(3, 158, 17), checks::even(3, 156, 17), checks::even(4, 20, 10));
     // Minutes 0, 52, 105, 158, 210: of 26 and 184, both neighbours are 26 minutes away.
     for (minute, wanted) in [
         (0, (0, 0)),
@@ -113,9 +111,9 @@ fn sample_a(checks: &mut Checks) {
     checks.min_demand("A", &a, 1, Err(6));
     checks.min_demand("A", &a, 4, Err(6));
     checks.test("A", &a, Ok([3, 158, 17, 29]));
-    reports(checks, "A", Plan { kind: Kind::WellFormed, k: 3, period: 158, total: 17 }, &[(0, 6), (52, 6), (105, 5), (158, 6)]);
+    reports(checks, "A", checks::well(3, 158, 17), &[(0, 6), (52, 6), (105, 5), (158, 6)]);
     checks.even("A", &a, Ok([52, 3, 17]));
-    reports(checks, "A, even", Plan { kind: Kind::Even, k: 3, period: 156, total: 17 }, &[(0, 6), (52, 6), (104, 5), (156, 6)]);
+    reports(checks, "A, even", checks::even(3, 156, 17), &[(0, 6), (52, 6), (104, 5), (156, 6)]);
     checks.even("A with gaps 53 to 55", &Spec { gap: (53, 55), ..a.clone() }, Err(10));
     checks.cycle("A", &a, &[(52, 6), (53, 6), (53, 5)], 0);
     let a28 = Spec { supply: Some((28, 220)), ..a };
@@ -133,12 +131,7 @@ fn sample_b(checks: &mut Checks) {
     checks.file("b15.spec", &spec::write(&b15));
     checks.test("B with 15", &b15, Err(Refused(9)));
     checks.even("B with 15", &b15, Ok([5, 4, 10]));
-    reports(
-        checks,
-        "B with 15, even",
-        Plan { kind: Kind::Even, k: 4, period: 20, total: 10 },
-        &[(0, 3), (5, 2), (10, 3), (15, 2), (20, 3)],
-    );
+    reports(checks, "B with 15, even", checks::even(4, 20, 10), &[(0, 3), (5, 2), (10, 3), (15, 2), (20, 3)]);
     checks.cycle("G, 3 2", &b15, &[(5, 3), (5, 2)], 0);
     checks.cycle("G, 3 3 2 2", &b15, &[(5, 3), (5, 3), (5, 2), (5, 2)], 15);
     checks.cycle("G, 2 2 2 3", &b15, &[(5, 2), (5, 2), (5, 2), (5, 3)], 16);
