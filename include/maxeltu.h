@@ -12,7 +12,8 @@
  * What holds for every call:
  *
  *  - A specification passes as the bytes of its file. A call that takes one
- *    answers MAXELTU_SPEC_MAP, _LENGTH, _LIMITS or _ORDER before anything else.
+ *    answers MAXELTU_SPEC_MAP, _LENGTH, _LIMITS, _ORDER or _RANGES (1 to 4 or
+ *    24, in that order) before anything else.
  *  - What a pointer parameter is called to hand back is written only where the
  *    answer is 0, `condition` only where it is MAXELTU_INCONSISTENT, and `left`
  *    after every offer to a meter with a supply rate, refused ones too. In every
@@ -34,14 +35,16 @@
  *    several threads at once are fine as long as they share no place that one of
  *    them writes. So one meter belongs to one thread at a time.
  *  - A call that checks, reads or writes a cycle holds it once, unpacked, on the
- *    stack: 2,048 bytes, and with all else that it needs some 2,250 (measured on
+ *    stack: 2,048 bytes, and with all else that it needs some 2,350 (measured on
  *    x86-64; tests/c/stack.c tells it of another build). A check looks at each
  *    pair a fixed number of times at most, whatever R and P are.
  *
  * Specification file: one byte of bit map (bit 0, the lowest, size; 1 gap;
- * 2 supply; 3 demand; 4 duration). Then, in that order, the pairs whose bit
- * stands, two 2-byte numbers each, high byte first: dmin dmax, smin smax, B R,
- * L P, Tmin Tmax. Size and gap must be there.
+ * 2 supply; 3 demand; 4 duration; 5 second range of gaps). Then, in that order,
+ * the pairs whose bit stands, two 2-byte numbers each, high byte first: dmin
+ * dmax, smin smax, B R, L P, Tmin Tmax, and the second range's bounds. Size and
+ * gap must be there. A gap is allowed when it is in either range; the second
+ * starts above smax (smax + 1 will do).
  *
  * Cycle file: the count of pairs, 2 bytes, high byte first. Then for each pair
  * one byte of bit map (bit 0 gap, bit 1 size) and 2 bytes for each bit that
@@ -63,12 +66,14 @@ enum maxeltu_refusal {
     MAXELTU_OK = 0,               /* no refusal */
 
     /* A specification's file. */
-    MAXELTU_SPEC_MAP = 1,         /* no first byte, or its bit map has bit 5 to 7, or lacks size or gap */
+    MAXELTU_SPEC_MAP = 1,         /* no first byte, or its bit map has bit 6 or 7, or lacks size or gap */
     MAXELTU_SPEC_LENGTH = 2,      /* the length is not the one that the bit map calls for */
     MAXELTU_SPEC_LIMITS = 3,      /* a value is out of its limits (below, MAXELTU_MAX_..; none may be 0) */
-    MAXELTU_SPEC_ORDER = 4,       /* a lower bound above its upper one: size, gap or duration */
+    MAXELTU_SPEC_ORDER = 4,       /* a lower bound above its upper one: size, gap, duration or second range */
+    MAXELTU_SPEC_RANGES = 24,     /* the second range of gaps does not start above smax */
 
-    /* Schedules of k reports, and the test. */
+    /* Consistency, schedules of k reports, and the test. */
+    MAXELTU_TWO_RANGES = 25,      /* the specification has a second range of gaps: these do not take one */
     MAXELTU_RATE_ABSENT = 5,      /* the supply rate or the demand rate is absent, and both are needed */
     MAXELTU_NO_SCHEDULE = 6,      /* no schedule with this k */
     MAXELTU_INCONSISTENT = 7,     /* inconsistent; `condition` says which condition (3 to 6) fails first */
@@ -76,12 +81,12 @@ enum maxeltu_refusal {
     MAXELTU_NOT_PASSED = 9,       /* the schedule taken does not pass */
 
     /* The even plan, and the reports of a plan. */
-    MAXELTU_NO_EVEN_PLAN = 10,    /* at no gap of the range does any endless list of sizes obey the rules */
+    MAXELTU_NO_EVEN_PLAN = 10,    /* at no gap of either range does any endless list of sizes obey the rules */
     MAXELTU_PLAN_IMPROPER = 11,   /* the plan is not proper */
 
     /* Checking a cycle; 13 to 15 also of an offer to a meter. */
     MAXELTU_COUNT = 12,           /* the count of pairs is 0 or above MAXELTU_MAX_PAIRS */
-    MAXELTU_GAP = 13,             /* some gap is out of the specification's range; the offer comes too early */
+    MAXELTU_GAP = 13,             /* some gap is in no range of the specification; the offer comes too early */
     MAXELTU_SIZE = 14,            /* some size, or the offer's, is out of the specification's range */
     MAXELTU_TOO_FULL = 15,        /* some R minutes hold more than B records, or would with the offer */
     MAXELTU_TOO_THIN = 16,        /* some P minutes hold fewer than L records */
@@ -103,13 +108,13 @@ enum maxeltu_refusal {
 /* Limits. Each value of a specification is at least 1 and at most: */
 enum maxeltu_limit {
     MAXELTU_MAX_SIZE = 1000,      /* dmin, dmax: records */
-    MAXELTU_MAX_GAP = 20160,      /* smin, smax: minutes */
+    MAXELTU_MAX_GAP = 20160,      /* smin, smax, and the second range's bounds: minutes */
     MAXELTU_MAX_RECORDS = 20000,  /* B, L: records */
     MAXELTU_MAX_WINDOW = 20160,   /* R, P: minutes */
     MAXELTU_MAX_DURATION = 60000, /* Tmin, Tmax: minutes */
 
     MAXELTU_MAX_PAIRS = 512,      /* pairs in a cycle */
-    MAXELTU_MAX_SPEC_FILE = 21,   /* bytes of the longest specification file */
+    MAXELTU_MAX_SPEC_FILE = 25,   /* bytes of the longest specification file */
     MAXELTU_MAX_CYCLE_FILE = 2562, /* bytes of the longest cycle file: 2 + 512 * 5 */
     MAXELTU_METER_PLACES = 1024   /* reports that a meter can hold */
 };
@@ -146,7 +151,7 @@ struct maxeltu_pair {
  */
 struct maxeltu_meter {
     uint16_t dmin, dmax;          /*  0,  2: the sizes that are allowed */
-    uint16_t smin;                /*  4: the least gap */
+    uint16_t smin;                /*  4: the least gap, that of the first range */
     uint16_t budget;              /*  6: B; with no supply rate 20,000 */
     uint16_t window;              /*  8: R; with no supply rate 0 */
     uint16_t records;             /* 10: the records of the reports that are held */
@@ -161,7 +166,7 @@ struct maxeltu_meter {
  * The loader's call: reads a specification file and a cycle file and checks the
  * cycle against the specification, over its endless repetition.
  *
- * Answers 0 where the cycle obeys the specification; 1 to 4 for the
+ * Answers 0 where the cycle obeys the specification; 1 to 4 or 24 for the
  * specification; then for the cycle file, as maxeltu_read_cycle does with 512
  * places: 18 where it has under 2 bytes, 12, then pair by pair 18, 17, 18, 19,
  * last 21 where bytes are left over; then 13 to 16, as maxeltu_check_cycle does.
@@ -178,7 +183,8 @@ uint32_t maxeltu_verdict(const uint8_t *spec, size_t spec_len,
  *   5  ceil(L / dmax) <= floor(P / smin)
  *   6  B * P >= L * R
  *
- * Answers 0 where it is; 1 to 4; 7 where it is not.
+ * Answers 0 where it is; 1 to 4 or 24; 25 where there is a second range of gaps;
+ * 7 where it is not.
  * Writes *condition, the first condition that fails (3 to 6; these are not
  * refusal numbers), only where the answer is 7.
  */
@@ -189,8 +195,8 @@ uint32_t maxeltu_consistency(const uint8_t *spec, size_t spec_len,
  * The minimum demand schedule with k reports in a period, a plan of the
  * well-formed kind. It exists when k * smin <= P and k * dmax >= L.
  *
- * Answers 0; 1 to 4; 5 where a rate is absent; 6 where it does not exist (any k
- * may be asked for, 0 too).
+ * Answers 0; 1 to 4 or 24; 25 where there is a second range of gaps; 5 where a
+ * rate is absent; 6 where it does not exist (any k may be asked for, 0 too).
  * Writes *period, the smaller of k * smax and P (minutes); *total, the larger of
  * k * dmin and L (records); *required, the records that minutes 0 to R - 1 hold.
  */
@@ -202,8 +208,8 @@ uint32_t maxeltu_min_demand(const uint8_t *spec, size_t spec_len, uint32_t k,
  * The maximum supply schedule with k reports in a period, a plan of the
  * well-formed kind. It exists when k * smax >= R and k * dmin <= B.
  *
- * Answers 0; 1 to 4; 5 where a rate is absent; 6 where it does not exist (any k
- * may be asked for, 0 too).
+ * Answers 0; 1 to 4 or 24; 25 where there is a second range of gaps; 5 where a
+ * rate is absent; 6 where it does not exist (any k may be asked for, 0 too).
  * Writes *period, the larger of k * smin and R (minutes); *total, the smaller of
  * k * dmax and B (records); *available, the least that any stretch of P minutes
  * holds.
@@ -219,8 +225,9 @@ uint32_t maxeltu_max_supply(const uint8_t *spec, size_t spec_len, uint32_t k,
  * that is at least L. Where several are equal it takes the smallest k.
  *
  * Answers 0 where the schedule taken passes: then its endless run obeys the
- * specification. 1 to 4; 5 where a rate is absent; 7 where the specification is
- * inconsistent; 8 where no k has a schedule; 9 where the one taken does not pass.
+ * specification. 1 to 4 or 24; 25 where there is a second range of gaps; 5 where
+ * a rate is absent; 7 where the specification is inconsistent; 8 where no k has a
+ * schedule; 9 where the one taken does not pass.
  * Writes *condition, the condition that fails first, only where the answer is 7;
  * and only where it is 0 *k, *period and *total, the plan (of the well-formed
  * kind), and *supply, its required or available supply.
@@ -230,11 +237,12 @@ uint32_t maxeltu_test(const uint8_t *spec, size_t spec_len,
                       uint32_t *total, uint32_t *supply);
 
 /*
- * The even plan: a schedule whose gaps are all the same, as large as the range
- * and the rules allow. Consistency is not asked for.
+ * The even plan: a schedule whose gaps are all the same, as large as the ranges
+ * and the rules allow: of the second range if one of its gaps will do, else of
+ * the first. Consistency is not asked for.
  *
- * Answers 0; 1 to 4; 10 where none exists: no gap of the range has any endless
- * list of sizes that obeys the rules.
+ * Answers 0; 1 to 4 or 24; 10 where none exists: no gap of either range has any
+ * endless list of sizes that obeys the rules.
  * Writes *k, *period and *total, a plan of the even kind. Its gap is
  * *period / *k minutes.
  */
@@ -302,9 +310,10 @@ uint32_t maxeltu_between(uint32_t kind, uint32_t k, uint32_t period,
  * Checks a cycle of `count` pairs against the specification, over its endless
  * repetition.
  *
- * Answers 0 where it obeys; 1 to 4; 12 where count is 0 or above 512; 13 where
- * some gap is out of range; 14 where some size is; 15 where some stretch of R
- * minutes is too full; 16 where some stretch of P minutes is too thin.
+ * Answers 0 where it obeys; 1 to 4 or 24; 12 where count is 0 or above 512; 13
+ * where some gap is in neither range; 14 where some size is out of range; 15
+ * where some stretch of R minutes is too full; 16 where some stretch of P minutes
+ * is too thin.
  * Reads `count` pairs; of more than 512, none. Writes nothing.
  */
 uint32_t maxeltu_check_cycle(const uint8_t *spec, size_t spec_len,
@@ -341,9 +350,9 @@ uint32_t maxeltu_write_cycle(const struct maxeltu_pair *pairs, size_t count,
 
 /*
  * Makes a meter for a specification, which has accepted nothing yet. Of the
- * specification it keeps dmin, dmax, smin, B and R.
+ * specification it keeps dmin, dmax, smin (the first range's), B and R.
  *
- * Answers 0; 1 to 4.
+ * Answers 0; 1 to 4 or 24.
  * Writes all of *meter: records, first, count, last and both arrays are 0. Where
  * the answer is not 0, *meter keeps every byte.
  */
@@ -364,7 +373,8 @@ uint32_t maxeltu_make_meter(const uint8_t *spec, size_t spec_len,
  * neither 15 nor 22.
  * A clock that was set back gets 13. Only accepted minutes count for that: before
  * anything is accepted, a minute may come before one that was offered earlier.
- * smax is not applied: a gap may be longer.
+ * smax and the second range are not applied: a gap may be any that is not shorter
+ * than smin.
  * Writes *meter only where the answer is 0. Writes *left, whatever the answer:
  * the budget left, B less the accepted records of the R minutes that end with
  * the later of the offered and the last accepted minute (with the offered one

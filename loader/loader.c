@@ -35,10 +35,12 @@ static const char *words(uint32_t refusal)
         return "a value of the specification is out of its limits";
     case MAXELTU_SPEC_ORDER:
         return "a lower bound of the specification is above its upper bound";
+    case MAXELTU_SPEC_RANGES:
+        return "the specification's second range of gaps does not start above its first";
     case MAXELTU_COUNT:
         return "the cycle's count of pairs is 0 or above 512";
     case MAXELTU_GAP:
-        return "some gap of the cycle is out of range";
+        return "some gap of the cycle is in no range of the specification";
     case MAXELTU_SIZE:
         return "some size of the cycle is out of range";
     case MAXELTU_TOO_FULL:

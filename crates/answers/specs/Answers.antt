@@ -46,24 +46,24 @@ conditionNumber SupplyCoversDemand = 6
 abbrev pub inconsistent : Condition → Answer
 inconsistent c = record { number = 7; values = conditionNumber c ∷ [] }
 
--- consistency: nothing more to say, or 7, or 3 or 4
+-- consistency: nothing more to say, or 7, or 3, 4, 24 or 25
 abbrev pub consistencyAnswer : Consistency → Answer
 consistencyAnswer Consistent = yields []
 consistencyAnswer (FailsCondition c) = inconsistent c
 consistencyAnswer (NotJudged n) = refusal n
 
--- a schedule for k reports: its plan's numbers and its supply figure, or 3 to 6
+-- a schedule for k reports: its plan's numbers and its supply figure, or 3 to 6, 24 or 25
 abbrev pub scheduledAnswer : Scheduled → Answer
 scheduledAnswer (ScheduleOf plan v) = yields (planNumbers plan (v ∷ []))
 scheduledAnswer (NoneFound n) = refusal n
 
--- the test: the numbers of the plan that it passes and its supply figure, or 7, or 3, 4, 5, 8, 9
+-- the test: the numbers of the plan that it passes and its supply figure, or 7, or 3, 4, 24, 25, 5, 8, 9
 abbrev pub testedAnswer : Tested → Answer
 testedAnswer (Passed plan v) = yields (planNumbers plan (v ∷ []))
 testedAnswer (Inconsistent c) = inconsistent c
 testedAnswer (NotPassed n) = refusal n
 
--- the even plan: its numbers, or 3, 4, 10
+-- the even plan: its numbers, or 3, 4, 24, 10
 abbrev pub evenAnswer : EvenPlan → Answer
 evenAnswer (Found p) = yields (planNumbers p [])
 evenAnswer (Refused n) = refusal n

@@ -1,11 +1,13 @@
--- A consistent specification is accepted, and condition 5 holds of it; an accepted one is consistent or fails a condition.
+-- A consistent specification is accepted and has one range of gaps, and condition 5 holds of it; such a one is consistent or fails a
+-- condition, and 25 is given exactly to an accepted one with two.
 use Prim.Native.Nat.{ℕ}
 use native.Mathlib.Omega.{arith}
 use mathlib.Core.Path.{_≡_, refl, sym, _∙_}
+use mathlib.Core.Logic.{_↔_}
 use mathlib.Core.Bool.{Bool, true, false, cond}
 use Rattle.spec.specs.declared.Spec.{Spec}
-use Rattle.spec.specs.Limits.{IsAccepted}
-use Rattle.spec.proofs.GoingOn.{goes-on, went-on}
+use Rattle.spec.specs.Rates.{oneRangeNumber, HasTwoRanges}
+use Rattle.spec.proofs.GoingOn.{HasOneRange, goes-on, went-on, tells-25}
 use Rattle.consistency.specs.declared.Condition.the-variants.{BoundsFitRates, FewestReportsFitBudget, EnoughReportsForDemand, SupplyCoversDemand}
 use Rattle.consistency.specs.declared.Consistency.{Consistency}
 use Rattle.consistency.specs.declared.Consistency.the-variants.{Consistent, Inconsistent, Refused}
@@ -29,17 +31,22 @@ conditions-judged s = pick (boundsFitRates s) (fewestReportsFitBudget s) (enough
     pick true false c d = tt
     pick false b c d = tt
 
-both-told : (s : Spec) → consistencyOf s ≡ Consistent → IsAccepted s × (conditionsOf s ≡ Consistent)
+both-told : (s : Spec) → consistencyOf s ≡ Consistent → HasOneRange s × (conditionsOf s ≡ Consistent)
 unfolding consistencyOf
-both-told s e = went-on s (conditionsOf s) Refused Consistent (λ n l m h. absurd (let z : _≡_ {A = ℕ} 0 1 = cc in omega arith)) e
+both-told s e =
+    went-on (oneRangeNumber s) (conditionsOf s) Refused Consistent (λ some h. absurd (let z : _≡_ {A = ℕ} 0 1 = cc in omega arith)) e
 
-pub consistent-accepted : (s : Spec) → consistencyOf s ≡ Consistent → IsAccepted s
-consistent-accepted s e = both-told s e .0
+pub consistent-one-range : (s : Spec) → consistencyOf s ≡ Consistent → HasOneRange s
+consistent-one-range s e = both-told s e .0
 
 pub fifth-holds : (s : Spec) → consistencyOf s ≡ Consistent → enoughReportsForDemand s ≡ true
 unfolding Judged
 fifth-holds s e = rw (both-told s e .1) at (conditions-judged s)
 
-pub accepted-no-number : (s : Spec) → IsAccepted s → (n : ℕ) → consistencyOf s ≡ Refused n → ⊥
+pub one-range-no-number : (s : Spec) → HasOneRange s → (n : ℕ) → consistencyOf s ≡ Refused n → ⊥
 unfolding consistencyOf Judged
-accepted-no-number s a n e = let x = sym (goes-on s (conditionsOf s) Refused a) ∙ e in rw x at (conditions-judged s)
+one-range-no-number s a n e = let x = sym (goes-on (oneRangeNumber s) (conditionsOf s) Refused a) ∙ e in rw x at (conditions-judged s)
+
+pub consistency-25 : (s : Spec) → (consistencyOf s ≡ Refused 25) ↔ HasTwoRanges s
+unfolding consistencyOf Judged
+consistency-25 s = tells-25 s (conditionsOf s) Refused (λ n e. cc) (λ one e. rw e at (conditions-judged s))

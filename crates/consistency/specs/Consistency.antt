@@ -1,6 +1,6 @@
 -- Document 01, "Consistency (000, Theorem 1; 1 and 2 are the ranges): 3: dmax ≤ B, smax ≤ P, P ≤ Tmin. 4: dmin × ⌊R/smax⌋ ≤ B.
--- 5: ⌈L/dmax⌉ ≤ ⌊P/smin⌋. 6: B × P ≥ L × R. A part that names an absent value is not applied."; and what it turns down: 3, 4, and
--- "7, carrying the first condition that fails". Each part of condition 3 is applied by itself: P ≤ Tmin waits for no supply rate.
+-- 5: ⌈L/dmax⌉ ≤ ⌊P/smin⌋. 6: B × P ≥ L × R. A part that names an absent value is not applied."; and what it turns down: 3, 4,
+-- 24 and 25 (document 02, Req 06), and "7, carrying the first condition that fails". Each part of condition 3 is applied by itself: P ≤ Tmin waits for no supply rate.
 use Prim.Native.Nat.{ℕ, _*_, _/_}
 use mathlib.Core.Bool.{Bool, true, cond, _&&_}
 use lib.Dec.{leb}
@@ -9,7 +9,7 @@ use Rattle.spec.specs.declared.Rate.the-variants.{Absent, Present}
 use Rattle.spec.specs.declared.Range.{Range}
 use Rattle.spec.specs.declared.Range.the-variants.{Absent as NoRange, Present as RangeOf}
 use Rattle.spec.specs.declared.Spec.{Spec}
-use Rattle.spec.specs.Limits.{ifAccepted}
+use Rattle.spec.specs.Rates.{ifOneRange}
 use Rattle.numbers.specs.Numbers.{ceil}
 use Rattle.consistency.specs.declared.Condition.the-variants.{BoundsFitRates, FewestReportsFitBudget, EnoughReportsForDemand, SupplyCoversDemand}
 use Rattle.consistency.specs.declared.Consistency.{Consistency}
@@ -61,4 +61,4 @@ conditionsOf s =
     (Inconsistent BoundsFitRates)
 
 unfoldable pub consistencyOf : Spec → Consistency
-consistencyOf s = ifAccepted s (conditionsOf s) Refused
+consistencyOf s = ifOneRange s (conditionsOf s) Refused

@@ -1,4 +1,4 @@
-// Consistency: the conditions of document 01, "Consistency", and the first of them that fails. Refusals 3, 4 and 7.
+// Consistency: the conditions of document 01, "Consistency", and the first of them that fails. Refusals 3, 4, 24, 25 and 7.
 use numbers::ceil_div;
 use spec::Range;
 use spec::Rate;
@@ -139,11 +139,11 @@ fn conditions_of(s: Spec) -> Consistency
     Consistency::Consistent
 }
 
-// Whether the specification is consistent; else the first condition that fails, or refusal 3 or 4.
+// Whether the specification is consistent; else the first condition that fails, or refusal 3, 4, 24 or 25.
 pub fn consistency_of(spec: Spec) -> Consistency
     ensures { λ r. ⌜ r ≡ consistencyOf spec ⌝ }
 {
-    let n = spec::spec_number(spec);
+    let n = spec::one_range_number(spec);
     if n != 0 {
         return Consistency::Refused(n);
     }

@@ -2,7 +2,7 @@
 use Prim.Native.Nat.{ℕ, _≤_}
 use native.Mathlib.Omega.{arith}
 use mathlib.Core.Path.{_≡_, refl, sym, _∙_}
-use mathlib.Core.Logic.{_↔_}
+use mathlib.Core.Logic.{_↔_, ⊎-elim}
 use mathlib.Core.List.{List}
 use mathlib.Core.Bool.{Bool, true, false, cond}
 use lib.Dec.{leb}
@@ -12,9 +12,9 @@ use Rattle.numbers.proofs.All.{some-fails}
 use Rattle.spec.specs.declared.Rate.{Rate}
 use Rattle.spec.specs.declared.Rate.the-variants.{Absent, Present}
 use Rattle.spec.specs.declared.Spec.{Spec}
-use Rattle.spec.specs.Limits.{IsAccepted}
+use Rattle.spec.specs.Limits.{specNumber, IsAccepted}
 use Rattle.spec.proofs.Facts.{gap-allowed-pos}
-use Rattle.spec.proofs.GoingOn.{went-on}
+use Rattle.spec.proofs.GoingOn.{went-on, number-few}
 use Rattle.pairs.specs.declared.Pair.{Pair}
 use Rattle.pairs.specs.Pairs.{countIn}
 use Rattle.schedule.specs.Schedules.{stretch}
@@ -49,18 +49,20 @@ cycle-said : (spec : Spec) (ps : List Pair) → Said (cycleNumber spec ps) (gaps
 unfolding cycleNumber
 cycle-said spec ps = said (countIn (length ps)) _ _ _ _
 
--- a number of 13 or more is the cycle's own: 3 and 4 are the specification's
-cycle-own : (spec : Spec) (ps : List Pair) (n : ℕ) → 13 ≤ n → checkNumber spec ps ≡ n → cycleNumber spec ps ≡ n
+-- a number from 13 to 16 is the cycle's own: 3, 4 and 24 are the specification's
+cycle-own : (spec : Spec) (ps : List Pair) (n : ℕ) → 13 ≤ n → n ≤ 16 → checkNumber spec ps ≡ n → cycleNumber spec ps ≡ n
 unfolding checkNumber
-cycle-own spec ps n h e = went-on spec (cycleNumber spec ps) (λ m. m) n (λ m some few same. omega arith) e .1
+cycle-own spec ps n low high e =
+    let other : ¬ (specNumber spec ≡ n) = λ z. ⊎-elim (λ few. omega arith) (λ is. omega arith) (number-few spec) in
+    went-on (specNumber spec) (cycleNumber spec ps) (λ m. m) n (λ some. other) e .1
 
 pub gap-refused : GapRefused
 unfolding gapsAllowed
-gap-refused spec ps e = some-fails _ (length ps) (cycle-said spec ps .is-13 (cycle-own spec ps 13 (omega arith) e))
+gap-refused spec ps e = some-fails _ (length ps) (cycle-said spec ps .is-13 (cycle-own spec ps 13 (omega arith) (omega arith) e))
 
 pub size-refused : SizeRefused
 unfolding sizesAllowed
-size-refused spec ps e = some-fails _ (length ps) (cycle-said spec ps .is-14 (cycle-own spec ps 14 (omega arith) e))
+size-refused spec ps e = some-fails _ (length ps) (cycle-said spec ps .is-14 (cycle-own spec ps 14 (omega arith) (omega arith) e))
 
 too-full : (rate : Rate) (ps : List Pair) → supplyKept rate ps ≡ false → TooFull rate (cycleRun ps)
 unfolding supplyKept
@@ -77,10 +79,10 @@ too-thin (Present l p) ps e =
     (k .0, leb-false _ _ (k .1 .1))
 
 pub supply-refused : SupplyRefused
-supply-refused spec ps e = too-full (spec .supply) ps (cycle-said spec ps .is-15 (cycle-own spec ps 15 (omega arith) e))
+supply-refused spec ps e = too-full (spec .supply) ps (cycle-said spec ps .is-15 (cycle-own spec ps 15 (omega arith) (omega arith) e))
 
 pub demand-refused : DemandRefused
-demand-refused spec ps e = too-thin (spec .demand) ps (cycle-said spec ps .is-16 (cycle-own spec ps 16 (omega arith) e))
+demand-refused spec ps e = too-thin (spec .demand) ps (cycle-said spec ps .is-16 (cycle-own spec ps 16 (omega arith) (omega arith) e))
 
 -- a cycle is passed exactly when its endless run obeys the four rules
 pub passed-obeys : (spec : Spec) (ps : List Pair) → IsAccepted spec → 1 ≤ length ps → length ps ≤ 512

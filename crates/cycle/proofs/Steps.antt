@@ -31,12 +31,12 @@ sizes-field spec ps = refl
 module _ (spec : Spec) (ps : List Pair) where
   pub gets-refused : (specNumber spec ≡ 0 → ⊥) → specNumber spec ≡ checkNumber spec ps
   unfolding checkNumber
-  gets-refused h = sym (stops spec (cycleNumber spec ps) (λ n. n) h)
+  gets-refused h = sym (stops (specNumber spec) (cycleNumber spec ps) (λ n. n) h)
 
   module _ (accepted : IsAccepted spec) where
     pub gets-cycle : checkNumber spec ps ≡ cycleNumber spec ps
     unfolding checkNumber
-    gets-cycle = goes-on spec (cycleNumber spec ps) (λ n. n) accepted
+    gets-cycle = goes-on (specNumber spec) (cycleNumber spec ps) (λ n. n) accepted
 
     pub gets-12 : countIn (length ps) ≡ false → 12 ≡ checkNumber spec ps
     unfolding cycleNumber

@@ -1,5 +1,5 @@
 -- Document 01, "Checking a cycle: 12 count 0 or above 512; 13 some gap out of range; 14 some size; 15 some R minutes too full; 16 some
--- P minutes too thin", after 3 and 4, with which every operation on a specification begins. "A refusal yields its number, the first
+-- P minutes too thin", after 3, 4 and 24, with which every operation on a specification begins. "A refusal yields its number, the first
 -- that applies"; "a cycle is passed when its check gives no refusal number".
 use Prim.Native.Nat.{ℕ}
 use mathlib.Core.List.{List}
@@ -49,10 +49,10 @@ cycleNumber spec ps =
     13)
     12
 
--- "Every operation given a specification as numbers begins with 3 and 4"
+-- "Every operation given a specification as numbers begins with 3 and 4", and now with 24
 unfoldable pub checkNumber : Spec → List Pair → ℕ
 checkNumber spec ps = ifAccepted spec (cycleNumber spec ps) (λ n. n)
 
--- the same given a specification's file: 1 to 4 first
+-- the same given a specification's file: 1 to 4 and 24 first
 unfoldable pub checkFileNumber : SpecRead → List Pair → ℕ
 checkFileNumber read ps = ifRead read (λ spec. checkNumber spec ps) (λ n. n)

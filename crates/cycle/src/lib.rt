@@ -1,4 +1,4 @@
-// Checking a cycle: 0, or the number with which document 01 refuses it (3, 4, 12 to 16). The check lays its stretches over the
+// Checking a cycle: 0, or the number with which document 01 refuses it (3, 4, 24, 12 to 16). The check lays its stretches over the
 // endless repetition with two ends that only go forward, and counts whole rounds by a product, so its work is linear in the
 // number of pairs however short a round is (`stretches`). No pair is written anywhere: the stretches lie on the one round that is lent.
 // What pairs are is the crate `pairs`', their file another's; the C call over a lent list of pairs, which unpacks it and calls

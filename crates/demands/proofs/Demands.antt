@@ -13,6 +13,7 @@ use Rattle.spec.specs.declared.SpecRead.the-variants.{Accepted}
 use Rattle.spec.specs.Limits.{IsAccepted}
 use Rattle.spec.specs.File.{readSpec}
 use Rattle.spec.proofs.AnyBytes.{SpecIsRead, spec-is-read}
+use Rattle.spec.proofs.Facts.{gap-in-either, number-24}
 use Rattle.schedule.specs.Schedules.{minute}
 use Rattle.schedule.specs.Rules.{Obeys}
 use Rattle.plan.specs.declared.Plan.{Plan}
@@ -23,8 +24,9 @@ use Rattle.schedule.proofs.Sums.{block}
 use Rattle.schedule.proofs.StretchSum.{stretch-is-sum}
 use Rattle.plan.proofs.Runs.{report-0-fullest, front-fullest, row-range, row-total}
 use Rattle.plan.proofs.ThereAndBack.{last-exact, nearest-exact, there-and-back, between-exact, counts-add-up}
-use Rattle.families.proofs.Schedules.{required-is-most, available-is-least}
-use Rattle.feasibility.proofs.Theorems.{test-passes, test-sound}
+use Rattle.consistency.proofs.Conditions.{consistency-25}
+use Rattle.families.proofs.Schedules.{required-is-most, available-is-least, schedule-25}
+use Rattle.feasibility.proofs.Theorems.{test-passes, test-sound, test-25}
 use Rattle.even.proofs.EvenPlans.{even-plan-obeys, even-plan-longest, even-plan-refused}
 use Rattle.pairs.specs.declared.Pair.{Pair}
 use Rattle.cycle.specs.Cycles.{cycleRun}
@@ -78,7 +80,7 @@ module _ (spec cycle : List ℕ) where
   zero-loaded : SpecIsRead (readSpec spec) → verdictOf spec cycle ≡ 0 → Loaded spec cycle
   unfolding verdictOf verdictRead
   zero-loaded (inl (s, (a, ok))) z = with-spec s a ok (readCycle 512 cycle) refl z
-  zero-loaded (inr (n, (a, bounds))) z = absurd (let e : n ≡ 0 = rw a at z in omega arith)
+  zero-loaded (inr (n, (a, bounds))) z = absurd (let e : n ≡ 0 = rw a at z in ⊎-elim (λ few. omega arith) (λ is. omega arith) bounds)
 
   accepted : (s : Spec) → readSpec spec ≡ Accepted s → SpecIsRead (readSpec spec) → IsAccepted s
   accepted s a (inl (t, (b, ok))) = let e : s ≡ t = cc in rw e ok
@@ -105,6 +107,9 @@ demands = record {
   refused-list-kept = λ file held held′ count count′ n. list-kept (readCycle (length held) file) held held′ count count′ n;
   refused-bytes-kept = bytes-kept;
   refused-meter-kept = refused-meter-kept;
+  gap-in-either = gap-in-either;
+  ranges-apart = number-24;
+  two-ranges-turned-away = λ s. (consistency-25 s, λ f k. schedule-25 f s k, test-25 s);
   stretch-sum = stretch-is-sum;
   whole-rounds = whole-rounds;
   required-supply = required-is-most;

@@ -11,9 +11,10 @@ use Rattle.spec.specs.declared.Rate.the-variants.{Absent, Present}
 use Rattle.spec.specs.declared.Spec.{Spec}
 use Rattle.spec.specs.declared.Rates.{Rates}
 use Rattle.spec.specs.declared.BothRates.the-variants.{Both}
-use Rattle.spec.specs.Rates.{bothRates}
+use Rattle.spec.specs.declared.Range.the-variants.{Present as RangeOf}
+use Rattle.spec.specs.Rates.{HasTwoRanges, bothRates}
 use Rattle.spec.specs.declared.SpecRead.the-variants.{Accepted, Refused as NotRead}
-use Rattle.spec.specs.Limits.{IsAccepted}
+use Rattle.spec.specs.Limits.{limits, order, specNumber, IsAccepted, gapAllowed}
 use Rattle.spec.specs.File.{readSpec}
 use Rattle.schedule.specs.Schedules.{Schedule, sum, minute, stretch, inStretch, share}
 use Rattle.schedule.specs.Moments.{IsLast, IsNearest, counted}
@@ -26,10 +27,13 @@ use Rattle.plan.specs.declared.moments.Found.the-variants.{Number}
 use Rattle.plan.specs.declared.moments.Contents.the-variants.{Held}
 use Rattle.plan.specs.Reports.{reportOf}
 use Rattle.plan.specs.Moments.{lastOf, nearestOf, betweenOf}
+use Rattle.consistency.specs.declared.Consistency.the-variants.{Refused as NotJudged}
+use Rattle.consistency.specs.Consistency.{consistencyOf}
+use Rattle.families.specs.declared.Family.{Family}
 use Rattle.families.specs.declared.Family.the-variants.{MinimumDemand, MaximumSupply}
-use Rattle.families.specs.declared.Scheduled.the-variants.{Found as ScheduleOf}
+use Rattle.families.specs.declared.Scheduled.the-variants.{Found as ScheduleOf, Refused as NotScheduled}
 use Rattle.families.specs.Families.{scheduleFor}
-use Rattle.feasibility.specs.declared.Tested.the-variants.{Passed}
+use Rattle.feasibility.specs.declared.Tested.the-variants.{Passed, Refused as NotTested}
 use Rattle.feasibility.specs.Test.{familyOf, testOf, BestOfAll}
 use Rattle.even.specs.declared.EvenPlan.the-variants.{Found, Refused}
 use Rattle.even.specs.Even.{evenPlan, evenly}
@@ -47,7 +51,7 @@ pub record Demands : Type 0 where
 
   pub specification-read : (bytes : List ℕ)
       → ((s : Spec) × ((readSpec bytes ≡ Accepted s) × IsAccepted s))
-      ⊎ ((n : ℕ) × ((readSpec bytes ≡ NotRead n) × ((1 ≤ n) × (n ≤ 4))))
+      ⊎ ((n : ℕ) × ((readSpec bytes ≡ NotRead n) × (((1 ≤ n) × (n ≤ 4)) ⊎ (n ≡ 24))))
   pub cycle-read : (places : ℕ) (file : List ℕ)
       → ((c : List Pair) × ((readCycle places file ≡ pairs c) × ((1 ≤ length c) × ((length c ≤ 512) × (length c ≤ places)))))
       ⊎ ((n : ℕ) × ((readCycle places file ≡ refused n) × ((n ≡ 12) ⊎ ((17 ≤ n) × (n ≤ 21)))))
@@ -67,6 +71,19 @@ pub record Demands : Type 0 where
   pub refused-meter-kept : (m : Meter) (t d : ℕ) → 0 < stepped m t d .answer .number → stepped m t d .meter ≡ m
   -- 2. The figures are those that document 01 defines, over every stretch and every k.
 
+  -- A second range of gaps (document 02, Req 06). A gap is allowed exactly when it is in either range.
+  pub gap-in-either : (s : Spec) (g : ℕ)
+      → (gapAllowed s g ≡ true)
+      ↔ (((s .smin ≤ g) × (g ≤ s .smax)) ⊎ ((lo : ℕ) × (hi : ℕ) × (s .second ≡ RangeOf lo hi) × (lo ≤ g) × (g ≤ hi)))
+  -- 24 is given exactly where 3 and 4 are not and the second range starts at smax or below it: ranges that touch are accepted
+  pub ranges-apart : (s : Spec)
+      → (specNumber s ≡ 24)
+      ↔ ((limits s ≡ true) × (order s ≡ true) × ((lo : ℕ) × (hi : ℕ) × (s .second ≡ RangeOf lo hi) × (lo ≤ s .smax)))
+  -- consistency, a schedule for any k and the test give 25 exactly to an accepted specification with a second range
+  pub two-ranges-turned-away : (s : Spec)
+      → ((consistencyOf s ≡ NotJudged 25) ↔ HasTwoRanges s)
+      × ((f : Family) (k : ℕ) → (scheduleFor f s k ≡ NotScheduled 25) ↔ HasTwoRanges s)
+      × ((testOf s ≡ NotTested 25) ↔ HasTwoRanges s)
   -- a stretch holds, summed, the sizes of the reports at its minutes, however many reports are looked at: every stretch below is such a sum
   pub stretch-sum : (s : Schedule) → ((i : ℕ) → 1 ≤ s .gap i) → (a w more : ℕ) → stretch s a w ≡ sum (share s a w) (a + w + more)
   -- Checking a cycle without doubling it (document 02, Req 04). Of every cycle of 1 to 512 pairs, or more, with no gap 0, in or out of any range,

@@ -14,7 +14,7 @@ use Rattle.spec.specs.declared.SpecRead.{SpecRead}
 use Rattle.spec.specs.declared.SpecRead.the-variants.{Accepted, Refused as NotRead}
 use Rattle.spec.specs.declared.Rate.{Rate}
 use Rattle.spec.specs.declared.Rate.the-variants.{Absent, Present}
-use Rattle.spec.specs.Limits.{IsAccepted, rateLimits, gapAllowed, gapTop}
+use Rattle.spec.specs.Limits.{specNumber, IsAccepted, rateLimits, gapAllowed, gapTop}
 use Rattle.spec.specs.File.{readSpec, ifRead}
 use Rattle.spec.proofs.GoingOn.{goes-on, went-on}
 use Rattle.spec.proofs.Facts.{facts, leb-iff, gap-allowed-pos, gap-allowed-top, gap-top-high}
@@ -44,13 +44,13 @@ module _ (s : Spec) where
 found : (s : Spec) (p : Plan) → evenPlan s ≡ Found p → IsAccepted s × (¬ (evenGap s ≡ 0)) × (evenPlanAt s (evenGap s) ≡ p)
 unfolding evenPlan planOr10
 found s p e =
-    let on = went-on s (planOr10 s (evenGap s)) Refused (Found p) (λ n l m h. absurd (let z : _≡_ {A = ℕ} 0 1 = cc in omega arith)) e in
+    let on = went-on (specNumber s) (planOr10 s (evenGap s)) Refused (Found p) (λ some h. absurd (let z : _≡_ {A = ℕ} 0 1 = cc in omega arith)) e in
     let r = if-found s p _ refl (on .1) in
     (on .0, r .0, r .1)
 
 refused : (s : Spec) → IsAccepted s → evenPlan s ≡ Refused 10 → evenGap s ≡ 0
 unfolding evenPlan planOr10
-refused s ok e = if-refused s _ refl (sym (goes-on s (planOr10 s (evenGap s)) Refused ok) ∙ e)
+refused s ok e = if-refused s _ refl (sym (goes-on (specNumber s) (planOr10 s (evenGap s)) Refused ok) ∙ e)
 
 -- The gap at which the search ends is allowed and fits, unless it is 0.
 gap-search : (s : Spec) → Largest (λ g. gapAllowed s g && fits s g) (gapTop s) (evenGap s)
@@ -64,7 +64,7 @@ gap-right s h = and-eq-true-iff _ _ .0 (gap-search s .passes (omega arith) .0)
 gap-longest : (s : Spec) → IsAccepted s → (g : ℕ) → evenGap s < g → (sizes : ℕ → ℕ) → ¬ Obeys s (evenly g sizes)
 gap-longest s ok g h sizes o =
     let allowed : gapAllowed s g ≡ true = o .gaps 0 in
-    let no : gapAllowed s g && fits s g ≡ false = gap-search s .above g h (gap-allowed-top s g allowed) in
+    let no : gapAllowed s g && fits s g ≡ false = gap-search s .above g h (gap-allowed-top s ok g allowed) in
     let yes : gapAllowed s g && fits s g ≡ true = and-eq-true-iff _ _ .1 (allowed, obeys-fits s g ok allowed sizes o) in
     let z : _≡_ {A = ℕ} 0 1 = cc in
     omega arith
@@ -81,7 +81,7 @@ module _ (s : Spec) (g : ℕ) (ok : IsAccepted s) (allowed : gapAllowed s g ≡ 
   bounds =
       let k = facts s ok in
       let pos : 0 < g = gap-allowed-pos s g ok allowed in
-      let high : g ≤ 20160 = le-trans (gap-allowed-top s g allowed) (gap-top-high s ok) in
+      let high : g ≤ 20160 = le-trans (gap-allowed-top s ok g allowed) (gap-top-high s ok) in
       let z = fits-holds s g ok pos e in
       let m = countAt (s .demand) g in
       record {

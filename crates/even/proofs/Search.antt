@@ -6,9 +6,9 @@ use mathlib.Core.Logic.{⊎-elim}
 use mathlib.Core.Bool.{Bool, true, false, _&&_, and-false}
 use borrow.Author.Tests.{le-leb, lt-leb}
 use Rattle.spec.specs.declared.Spec.{Spec}
-use Rattle.spec.specs.Limits.{between, gapAllowed, gapTop}
+use Rattle.spec.specs.Limits.{between}
 use Rattle.numbers.proofs.Cases.{lt-cases}
-use Rattle.even.specs.Even.{fits, largest, evenGap}
+use Rattle.even.specs.Even.{fits, largest}
 use Rattle.even.specs.Search.{evenGapIn, nextGap}
 use Rattle.even.proofs.Jumps.{next-gap-less, next-gap-skips}
 
@@ -28,6 +28,21 @@ module _ (ok : ℕ → Bool) where
         passes = λ h. let r = ih .passes h in (r .0, omega arith);
         above = λ y a b. ⊎-elim (λ q. ih .above y a (omega arith)) (λ q. let z : y ≡ suc n = omega arith in rw z e) (lt-cases y (suc n));
       }
+
+  -- there is one only
+  pub largest-is : (n x : ℕ) → Largest n x → largest ok n ≡ x
+  largest-is n x h =
+      let y = largest ok n in
+      let r = largest-right n in
+      let z : _≡_ {A = ℕ} 0 1 → ⊥ = λ e. omega arith in
+      ⊎-elim
+      (λ l. absurd (z (let p = r .passes (omega arith) .0 in let q = h .above y l (r .passes (omega arith) .1) in cc)))
+      (λ l.
+      ⊎-elim
+      (λ m. absurd (z (let p = h .passes (omega arith) .0 in let q = r .above x m (h .passes (omega arith) .1) in cc)))
+      (λ m. omega arith)
+      (lt-cases y x))
+      (lt-cases x y)
 
   largest-top : (n : ℕ) → 0 < n → ok n ≡ true → largest ok n ≡ n
   unfolding largest
@@ -68,8 +83,3 @@ module _ (spec : Spec) (lo hi : ℕ) (low : 0 < lo) where
   pub search-ends : (s : ℕ) → s < lo → leftFrom spec lo hi s ≡ 0
   unfolding leftFrom largest
   search-ends s h = largest-skip (λ t. between lo hi t && fits spec t) 0 s (omega arith) (λ t p q. rw (lt-leb lo t (omega arith)))
-
--- the allowed gaps are those of one range
-pub one-range : (spec : Spec) → evenGapIn spec (spec .smin) (spec .smax) ≡ evenGap spec
-unfolding evenGapIn evenGap gapAllowed gapTop
-one-range spec = refl

@@ -1,7 +1,8 @@
 -- Document 01, "The even plan": "For a gap s let m = ⌊P/s⌋, the fewest reports in any P minutes, and n = ⌈R/s⌉, the most in any R.
 -- Take the largest s in the range at which an endless list of sizes obeys the rules. The plan has k = m, π = m × s, δ the larger of
 -- m × dmin and L. With demand absent, k = 1, π = s, δ = dmin. Consistency is not a condition here. Refusal is judged against every
--- endless list of sizes." And "What each operation turns down": "10 none exists."
+-- endless list of sizes." And "What each operation turns down": "10 none exists." Document 02, Req 06: "The even plan looks through both,
+-- largest gap first, and its refusal means that neither range has a gap that works."
 -- Whether a gap has such a list is said here by arithmetic, so that it computes; `ArithmeticRight` of Statements.antt, proved in
 -- proofs/EvenFits.antt, says that this is the document's condition.
 use Prim.Native.Nat.{ℕ, zero, suc, _*_, _/_, max}
@@ -52,7 +53,7 @@ unfoldable pub largest : (ℕ → Bool) → ℕ → ℕ
 largest ok zero = 0
 largest ok (suc n) = elim (ok (suc n)) [ true ↦ suc n | false ↦ largest ok n ]
 
--- "the largest s in the range at which an endless list of sizes obeys the rules"; 0 where there is none
+-- "the largest s in the range at which an endless list of sizes obeys the rules", in either range; 0 where there is none
 unfoldable pub evenGap : Spec → ℕ
 evenGap spec = largest (λ s. gapAllowed spec s && fits spec s) (gapTop spec)
 
@@ -66,7 +67,7 @@ evenPlanAt spec s =
 unfoldable pub planOr10 : Spec → ℕ → EvenPlan
 planOr10 spec s = cond (eqb s 0) (Refused 10) (Found (evenPlanAt spec s))
 
--- the even plan of a specification as numbers, which begins with 3 and 4, and of a specification file
+-- the even plan of a specification as numbers, which begins with 3, 4 and 24, and of a specification file
 unfoldable pub evenPlan : Spec → EvenPlan
 evenPlan spec = ifAccepted spec (planOr10 spec (evenGap spec)) Refused
 

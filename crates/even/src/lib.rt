@@ -1,19 +1,22 @@
 // The even plan: the longest gap at which an endless list of sizes obeys the rules, with k, period and total (document 01, "The
-// even plan"). Refusal 10, after a specification's own. The sizes themselves are crate `plan`'s; here are the arithmetic that says
-// whether a gap has such a list, and the search for the longest one, which tries few of up to 20,160 gaps.
+// even plan"; document 02, Req 06). Refusal 10, after a specification's own. The sizes themselves are crate `plan`'s; here are the
+// arithmetic that says whether a gap has such a list, and the search for the longest one, which tries few of up to 20,160 gaps: those of
+// the second range first, as they are longer.
 use numbers::ceil_div;
 use numbers::larger;
 use plan::Kind;
 use plan::Plan;
+use spec::Range;
 use spec::Rate;
 use spec::Spec;
 use spec::SpecRead;
 use spec::refusal;
 ghost use mathlib.Core.Path.{_≡_};
 ghost use Prim.Native.Nat.{_≤_};
-ghost use Rattle.spec.specs.Limits.{specNumber};
+ghost use mathlib.Core.Bool.{true};
+ghost use Rattle.spec.specs.Limits.{rangeLimits, specNumber};
 ghost use Rattle.even.specs.Even.{countAt, totalOf, demandFits, supplyFits, fits, evenGap, evenPlanAt, evenPlan, evenOf};
-ghost use Rattle.even.specs.Search.{evenGapIn, nextGap};
+ghost use Rattle.even.specs.Search.{evenGapIn, evenGapOf, nextGap};
 
 // The even plan, or the number of its refusal.
 pub enum EvenPlan {
@@ -102,7 +105,8 @@ fn next_gap(demand: Rate, s: u16) -> u16
     }
 }
 
-// The longest gap from lo to hi that fits, 0 where none does. It tries about 2 × √P gaps at most (`FewTries` of specs/Search.antt).
+// The longest gap from lo to hi that fits, 0 where none does. It tries about 2 × √P gaps at most, as do the searches of both ranges
+// together (`FewTries` of specs/Search.antt).
 fn gap_within(spec: Spec, lo: u16, hi: u16) -> u16
     requires { ⌜ 1 ≤ lo ⌝ }
     ensures { λ r. ⌜ r ≡ evenGapIn spec lo hi ⌝ }
@@ -118,11 +122,31 @@ fn gap_within(spec: Spec, lo: u16, hi: u16) -> u16
     0
 }
 
+// The same of a range that may be absent.
+fn gap_of(spec: Spec, range: Range) -> u16
+    requires { ⌜ rangeLimits 20160 range ≡ true ⌝ }
+    ensures { λ r. ⌜ r ≡ evenGapOf spec range ⌝ }
+{
+    match range {
+        Range::Absent => 0,
+        Range::Present { min, max } => gap_within(spec, min, max),
+    }
+}
+
 fn even_gap(spec: Spec) -> u16
     requires { ⌜ specNumber spec ≡ 0 ⌝ }
     ensures { λ r. ⌜ r ≡ evenGap spec ⌝ }
 {
-    gap_within(spec, spec.smin, spec.smax)
+    let first = Range::Present {
+        min: spec.smin,
+        max: spec.smax,
+    };
+    let second = spec.second;
+    let s = gap_of(spec, second);
+    if s != 0 {
+        return s;
+    }
+    gap_of(spec, first)
 }
 
 fn plan_at(spec: Spec, s: u16) -> Plan

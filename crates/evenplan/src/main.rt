@@ -151,17 +151,17 @@ fn skip_rest() {
     }
 }
 
-// The answer to every file of which these are the first 22 bytes. The longest specification file has 21, so 22 show that a file is
+// The answer to every file of which these are the first 26 bytes. The longest specification file has 25, so 26 show that a file is
 // too long, whatever follows.
 fn answer_to(front: &[u8]) -> EvenPlan
     ensures given { λ r. ⌜ r ≡ evenOf (now (front .entry)) ⌝ }
-    ensures whole { λ r. ⌜ ((file : List ℕ) → now (front .entry) ≡ take 22 file → r ≡ evenOf file) ⌝ }
+    ensures whole { λ r. ⌜ ((file : List ℕ) → now (front .entry) ≡ take 26 file → r ≡ evenOf file) ⌝ }
 {
     even::even_of(front)
 }
 
 fn main() {
-    let mut front = [0u8; 22];
+    let mut front = [0u8; 26];
     let n = io::read_full(STDIN_FILENO, &mut front);
     let answer = answer_to(&front[..n]);
     skip_rest();

@@ -4,7 +4,7 @@ use Prim.Native.Nat.{ℕ, _*_, _≤_}
 use native.Mathlib.Omega.{arith}
 use native.Mathlib.Nat.{le-trans, le-max-left, max-le, min-le-left, le-min, mul-le-mul-left, mul-le-mul-right, mul-comm, le-mul-of-pos-right, zero-mul}
 use mathlib.Core.Path.{_≡_, refl, sym}
-use mathlib.Core.Logic.{⊎-elim}
+use mathlib.Core.Logic.{inl, ⊎-elim}
 use mathlib.Core.Bool.{true, false, and-eq-true-iff}
 use Rattle.spec.specs.declared.Spec.{Spec}
 use Rattle.spec.specs.declared.Rates.{Rates}
@@ -97,7 +97,7 @@ module _ (s : Spec) (q : Rates) (n : Known s q) where
 
     well-gaps : (i : ℕ) → gapAllowed s (run well .gap i) ≡ true
     unfolding run kindRun
-    well-gaps i = gap-allowed-iff s _ .1 (gap-range k (v .some) π (s .smin) (s .smax) (v .slow) (v .fast) i)
+    well-gaps i = gap-allowed-iff s _ .1 (inl (gap-range k (v .some) π (s .smin) (s .smax) (v .slow) (v .fast) i))
 
   pub plan-proper : (f : Family) (k : ℕ) → exists f s q k ≡ true → proper (planFor f s q k) ≡ true
   unfolding planFor

@@ -2,14 +2,14 @@
 use Prim.Native.Nat.{ℕ, _%_, _-_, _≤_}
 use native.Mathlib.Omega.{arith}
 use mathlib.Core.Path.{_≡_, refl, sym, _∙_}
+use mathlib.Core.Logic.{_↔_}
 use mathlib.Core.Bool.{Bool, true, false}
 use Rattle.spec.specs.declared.Spec.{Spec}
 use Rattle.spec.specs.declared.Rates.{Rates}
 use Rattle.spec.specs.declared.BothRates.{BothRates}
 use Rattle.spec.specs.declared.BothRates.the-variants.{Both, Refused as NoRates}
-use Rattle.spec.specs.Limits.{IsAccepted}
-use Rattle.spec.specs.Rates.{bothRates, started, ifRates}
-use Rattle.spec.proofs.GoingOn.{goes-on, started-both}
+use Rattle.spec.specs.Rates.{HasTwoRanges, bothRates, started, ifRates}
+use Rattle.spec.proofs.GoingOn.{tells-25, rates-begin, rate-absent, started-both, started-at}
 use Rattle.spec.proofs.KnownRates.{Known, known}
 use Rattle.schedule.specs.Schedules.{stretch}
 use Rattle.plan.specs.declared.Plan.{Plan}
@@ -39,24 +39,40 @@ found-exists f s q k plan v e = pick (exists f s q k) refl
     pick false h = absurd (let x = scheduled-none f s q k h in let z : _≡_ {A = ℕ} 0 1 = cc in omega arith)
 
 module _ (f : Family) (s : Spec) (q : Rates) (k : ℕ) where
-  pub schedule-at : IsAccepted s → bothRates s ≡ Both q → scheduleFor f s k ≡ scheduled f s q k
-  unfolding scheduleFor started
-  schedule-at a e = rw (goes-on s (bothRates s) NoRates a, e)
+  pub schedule-at : started s ≡ Both q → scheduleFor f s k ≡ scheduled f s q k
+  unfolding scheduleFor
+  schedule-at e = rw e
 
   pub none-at : Known s q → exists f s q k ≡ false → scheduleFor f s k ≡ Refused 6
-  none-at n h = schedule-at (n .accepted) (n .both) ∙ scheduled-none f s q k h
+  none-at n h = schedule-at (n .start) ∙ scheduled-none f s q k h
 
   pub some-at : Known s q → exists f s q k ≡ true → scheduleFor f s k ≡ Found (planFor f s q k) (supplyFigure f q (planFor f s q k))
-  some-at n h = schedule-at (n .accepted) (n .both) ∙ scheduled-some f s q k h
+  some-at n h = schedule-at (n .start) ∙ scheduled-some f s q k h
 
--- only an accepted specification has a schedule
-schedule-accepted : (f : Family) (s : Spec) (k : ℕ) (plan : Plan) (v : ℕ) → scheduleFor f s k ≡ Found plan v → IsAccepted s
+-- only a specification that is started with has a schedule
+schedule-started : (f : Family) (s : Spec) (q : Rates) (k : ℕ) (plan : Plan) (v : ℕ)
+    → bothRates s ≡ Both q → scheduleFor f s k ≡ Found plan v → started s ≡ Both q
 unfolding scheduleFor
-schedule-accepted f s k plan v e = pick (started s) refl e
+schedule-started f s q k plan v e x = pick (started s) refl x
   where
-    pick : (r : BothRates) → started s ≡ r → ifRates r (λ q. scheduled f s q k) Refused ≡ Found plan v → IsAccepted s
-    pick (Both q) h x = started-both s q h .0
-    pick (NoRates n) h x = absurd (let z : _≡_ {A = ℕ} 0 1 = cc in omega arith)
+    pick : (r : BothRates) → started s ≡ r → ifRates r (λ p. scheduled f s p k) Refused ≡ Found plan v → started s ≡ Both q
+    pick (Both p) h y = started-at s q (started-both s p h .0) e
+    pick (NoRates n) h y = absurd (let z : _≡_ {A = ℕ} 0 1 = cc in omega arith)
+
+-- 25 is given exactly to an accepted specification with a second range, whatever k is
+no-25 : (f : Family) (s : Spec) (k : ℕ) (r : BothRates) → bothRates s ≡ r → ¬ (ifRates r (λ q. scheduled f s q k) Refused ≡ Refused 25)
+no-25 f s k (NoRates n) h x = let z : n ≡ 25 = cc in omega (arith, rate-absent s n h)
+no-25 f s k (Both q) h x = pick (exists f s q k) refl
+  where
+    pick : (b : Bool) → exists f s q k ≡ b → ⊥
+    pick true e = let y = scheduled-some f s q k e in let z : _≡_ {A = ℕ} 0 1 = cc in omega arith
+    pick false e = let y = scheduled-none f s q k e in let z : _≡_ {A = ℕ} 6 25 = cc in omega arith
+
+pub schedule-25 : (f : Family) (s : Spec) (k : ℕ) → (scheduleFor f s k ≡ Refused 25) ↔ HasTwoRanges s
+unfolding scheduleFor
+schedule-25 f s k =
+    rw (rates-begin s (λ q. scheduled f s q k) Refused)
+    (tells-25 s (ifRates (bothRates s) (λ q. scheduled f s q k) Refused) Refused (λ n e. cc) (λ one. no-25 f s k (bothRates s) refl))
 
 pub record FoundAt (f : Family) (s : Spec) (q : Rates) (k : ℕ) (plan : Plan) (v : ℕ) : Type 0 where
   pub rates : Known s q
@@ -65,9 +81,9 @@ pub record FoundAt (f : Family) (s : Spec) (q : Rates) (k : ℕ) (plan : Plan) (
 
 pub found-at : (f : Family) (s : Spec) (q : Rates) (k : ℕ) (plan : Plan) (v : ℕ) → bothRates s ≡ Both q → scheduleFor f s k ≡ Found plan v → FoundAt f s q k plan v
 found-at f s q k plan v e h =
-    let a = schedule-accepted f s k plan v h in
-    let n = known s q a e in
-    let x = found-exists f s q k plan v (sym (schedule-at f s q k a e) ∙ h) in
+    let start = schedule-started f s q k plan v e h in
+    let n = known s q start in
+    let x = found-exists f s q k plan v (sym (schedule-at f s q k start) ∙ h) in
     record {
       rates = n;
       at = x;

@@ -1,7 +1,8 @@
 -- Document 01, "Schedules from document 000": "Minimum demand, k reports" and "Maximum supply, k reports", when each exists, its plan
 -- and its supply figure; "What each operation turns down": "Minimum demand or maximum supply for k: 5 the rate it rests on, or the
 -- rate its supply figure needs, is absent; 6 no schedule with k." Both rates are needed by either: one gives the schedule, the other
--- the minutes of its figure. k is any number; 0 and those too large have no schedule by the inequalities themselves.
+-- the minutes of its figure. k is any number; 0 and those too large have no schedule by the inequalities themselves. Document 02, Req 06:
+-- 24, and 25 before 5.
 use Prim.Native.Nat.{ℕ, zero, suc, _-_, _*_, min, max}
 use mathlib.Core.Bool.{Bool, true, false, _&&_}
 use lib.Dec.{leb}
@@ -51,6 +52,6 @@ unfoldable pub scheduled : Family → Spec → Rates → ℕ → Scheduled
 scheduled f s q k =
     elim (exists f s q k) [ true ↦ Found (planFor f s q k) (supplyFigure f q (planFor f s q k)) | false ↦ Refused 6 ]
 
--- 3 and 4, "5 the rate it rests on, or the rate its supply figure needs, is absent", then 6
+-- 3, 4, 24 and 25, "5 the rate it rests on, or the rate its supply figure needs, is absent", then 6
 unfoldable pub scheduleFor : Family → Spec → ℕ → Scheduled
 scheduleFor f s k = ifRates (started s) (λ q. scheduled f s q k) Refused

@@ -1,4 +1,5 @@
-// The two families of schedules for k reports, with their supply figures (document 01, "Schedules from document 000"). Refusals 3 to 6.
+// The two families of schedules for k reports, with their supply figures (document 01, "Schedules from document 000"). Refusals 3 to
+// 6, 24 and 25.
 use numbers::larger;
 use numbers::smaller;
 use plan::Kind;
@@ -12,8 +13,7 @@ ghost use mathlib.Core.Path.{_≡_};
 ghost use mathlib.Core.Bool.{true};
 ghost use Prim.Native.Nat.{_*_, _<_};
 ghost use Rattle.spec.specs.declared.BothRates.the-variants.{Both};
-ghost use Rattle.spec.specs.Limits.{IsAccepted};
-ghost use Rattle.spec.specs.Rates.{bothRates};
+ghost use Rattle.spec.specs.Rates.{started};
 ghost use Rattle.schedule.specs.Schedules.{stretch};
 ghost use Rattle.plan.specs.declared.Kind.the-variants.{WellFormed};
 ghost use Rattle.plan.specs.Plans.{proper, run, planOf};
@@ -64,7 +64,7 @@ fn well_formed(k: u32, period: u64, total: u64) -> Plan
 
 // The plan of the family's schedule with k reports.
 fn plan_for(f: Family, s: Spec, q: Rates, k: u32) -> Plan
-    requires { ⌜ (IsAccepted s) × (bothRates s ≡ Both q) × (exists f s q k ≡ true) ⌝ }
+    requires { ⌜ (started s ≡ Both q) × (exists f s q k ≡ true) ⌝ }
     ensures { λ r. ⌜ r ≡ planFor f s q k ⌝ }
 {
     match f {
@@ -128,7 +128,7 @@ fn supply_figure(f: Family, q: Rates, plan: Plan) -> u32
 
 // The schedule with k reports and its supply figure, in a few divisions whatever the minutes and k are.
 fn scheduled_with(f: Family, s: Spec, q: Rates, k: u32) -> Scheduled
-    requires { ⌜ (IsAccepted s) × (bothRates s ≡ Both q) ⌝ }
+    requires { ⌜ started s ≡ Both q ⌝ }
     ensures { λ r. ⌜ r ≡ scheduled f s q k ⌝ }
 {
     if !schedule_exists(f, s, q, k) {
@@ -139,7 +139,7 @@ fn scheduled_with(f: Family, s: Spec, q: Rates, k: u32) -> Scheduled
     Scheduled::Found { plan, supply }
 }
 
-// The family's schedule with k reports and its supply figure, or refusal 3 to 6.
+// The family's schedule with k reports and its supply figure, or refusal 3 to 6, 24 or 25.
 pub fn schedule_for(f: Family, spec: Spec, k: u32) -> Scheduled
     ensures { λ r. ⌜ r ≡ scheduleFor f spec k ⌝ }
 {

@@ -9,16 +9,15 @@ use borrow.Author.Tests.{leb-true}
 use Rattle.spec.specs.declared.Spec.{Spec}
 use Rattle.spec.specs.declared.Rates.{Rates}
 use Rattle.spec.specs.declared.BothRates.the-variants.{Both}
-use Rattle.spec.specs.Limits.{specNumber, IsAccepted}
-use Rattle.spec.specs.Rates.{bothRates}
-use Rattle.spec.proofs.GoingOn.{number-few, started-at, started-not, accepted-or}
+use Rattle.spec.specs.Rates.{oneRangeNumber, bothRates, started}
+use Rattle.spec.proofs.GoingOn.{HasOneRange, none-or, stops, one-range-few, rates-begin, started-at}
 use Rattle.spec.proofs.KnownRates.{Known, known}
 use Rattle.plan.specs.declared.Plan.{Plan}
 use Rattle.consistency.specs.declared.Condition.{Condition}
 use Rattle.consistency.specs.declared.Consistency.{Consistency}
 use Rattle.consistency.specs.declared.Consistency.the-variants.{Consistent, Refused as NotJudged, Inconsistent as FailsCondition}
 use Rattle.consistency.specs.Consistency.{whereRate, enoughReportsForDemand, consistencyOf}
-use Rattle.consistency.proofs.Conditions.{consistent-accepted, fifth-holds, accepted-no-number}
+use Rattle.consistency.proofs.Conditions.{consistent-one-range, fifth-holds, one-range-no-number}
 use Rattle.families.specs.declared.Family.{Family}
 use Rattle.families.specs.declared.Family.the-variants.{MinimumDemand}
 use Rattle.families.specs.declared.Scheduled.{Scheduled}
@@ -35,32 +34,40 @@ module _ (s : Spec) (q : Rates) (e : bothRates s ≡ Both q) where
   abbrev f : Family
   f = familyOf q
 
-  -- it tests what is taken, or names a condition, or gives 3 or 4
+  -- it tests what is taken, or names a condition, or gives 3, 4, 24 or 25
   abbrev TestsTaken : Type 0
   TestsTaken = (consistencyOf s ≡ Consistent) × (testOf s ≡ testTaken f q (taken f s q))
 
   abbrev Otherwise : Type 0
-  Otherwise = ((c : Condition) × (testOf s ≡ Inconsistent c)) ⊎ (testOf s ≡ Refused (specNumber s))
+  Otherwise = ((c : Condition) × (testOf s ≡ Inconsistent c)) ⊎ (testOf s ≡ Refused (oneRangeNumber s))
 
-  accepted : (c : Consistency) → consistencyOf s ≡ c → IsAccepted s → testOf s ≡ testConsistent c s q
+  judged : (c : Consistency) → consistencyOf s ≡ c → HasOneRange s → testOf s ≡ testConsistent c s q
   unfolding testOf
-  accepted c h a = rw (started-at s q a e, h)
+  judged c h one = rw (started-at s q one e, h)
+
+  -- a consistent specification is started with
+  pub begun : consistencyOf s ≡ Consistent → started s ≡ Both q
+  begun h = started-at s q (consistent-one-range s h) e
 
   pub consistent : consistencyOf s ≡ Consistent → testOf s ≡ testTaken f q (taken f s q)
   unfolding testConsistent
-  consistent h = accepted Consistent h (consistent-accepted s h)
+  consistent h = judged Consistent h (consistent-one-range s h)
 
   outcome : TestsTaken ⊎ Otherwise
   unfolding testOf testConsistent
-  outcome = ⊎-elim (λ a. pick (consistencyOf s) refl a) (λ a. inr (inr (rw (started-not s a)))) (accepted-or s)
+  outcome =
+      ⊎-elim
+      (λ one. pick (consistencyOf s) refl one)
+      (λ some. inr (inr (rates-begin s _ Refused ∙ stops (oneRangeNumber s) _ Refused some)))
+      (none-or (oneRangeNumber s))
     where
-      pick : (c : Consistency) → consistencyOf s ≡ c → IsAccepted s → TestsTaken ⊎ Otherwise
-      pick Consistent h a = inl (h, consistent h)
-      pick (FailsCondition x) h a = inr (inl (x, accepted (FailsCondition x) h a))
-      pick (NotJudged n) h a = absurd (accepted-no-number s a n h)
+      pick : (c : Consistency) → consistencyOf s ≡ c → HasOneRange s → TestsTaken ⊎ Otherwise
+      pick Consistent h one = inl (h, consistent h)
+      pick (FailsCondition x) h one = inr (inl (x, judged (FailsCondition x) h one))
+      pick (NotJudged n) h one = absurd (one-range-no-number s one n h)
 
   -- a passed plan, 8 and 9 come only where what is taken is tested
-  pub tests-taken : (t : Tested) → testOf s ≡ t → ((c : Condition) → t ≡ Inconsistent c → ⊥) → (t ≡ Refused (specNumber s) → ⊥) → (consistencyOf s ≡ Consistent) × (testTaken f q (taken f s q) ≡ t)
+  pub tests-taken : (t : Tested) → testOf s ≡ t → ((c : Condition) → t ≡ Inconsistent c → ⊥) → (t ≡ Refused (oneRangeNumber s) → ⊥) → (consistencyOf s ≡ Consistent) × (testTaken f q (taken f s q) ≡ t)
   tests-taken t x not-condition not-number =
       ⊎-elim
       (λ g. (g .0, sym (g .1) ∙ x))
@@ -68,9 +75,9 @@ module _ (s : Spec) (q : Rates) (e : bothRates s ≡ Both q) where
       outcome
 
   -- what is taken, and the best of all k
-  module _ (a : IsAccepted s) where
+  module _ (start : started s ≡ Both q) where
     abbrev Of : Scheduled → Type 0
-    Of = TakenOf s q (known s q a e) f
+    Of = TakenOf s q (known s q start) f
 
     -- there is one best only
     pub unique : (plan : Plan) (v : ℕ) (t : Scheduled) → Of t → BestOfAll f s plan v → t ≡ Found plan v
@@ -83,7 +90,7 @@ module _ (s : Spec) (q : Rates) (e : bothRates s ≡ Both q) where
         sym (h .schedule) ∙ ap (scheduleFor f s) c ∙ b .schedule
 
     pub best-taken : Of (taken f s q)
-    best-taken = taken-best s q (known s q a e) f
+    best-taken = taken-best s q (known s q start) f
 
     pub passed : (plan : Plan) (v : ℕ) (t : Scheduled) → Of t → testTaken f q t ≡ Passed plan v → BestOfAll f s plan v × (figurePasses f q v ≡ true)
     unfolding testTaken
@@ -106,10 +113,20 @@ module _ (s : Spec) (q : Rates) (e : bothRates s ≡ Both q) where
         pick true g y = absurd (let z : _≡_ {A = ℕ} 0 1 = cc in omega arith)
         pick false g y = (p, w, h, g)
 
+    -- none but 8 and 9
+    pub refusals-two : (m : ℕ) (t : Scheduled) → Of t → testTaken f q t ≡ Refused m → (m ≡ 8) ⊎ (m ≡ 9)
+    unfolding testTaken
+    refusals-two m (NoneFound n) h x = inl (let z : n ≡ m = cc in omega (arith, h .0))
+    refusals-two m (Found p w) h x = pick (figurePasses f q w) x
+      where
+        pick : (b : Bool) → cond b (Passed p w) (Refused 9) ≡ Refused m → (m ≡ 8) ⊎ (m ≡ 9)
+        pick true y = absurd (let z : _≡_ {A = ℕ} 0 1 = cc in omega arith)
+        pick false y = inr (let z : _≡_ {A = ℕ} 9 m = cc in sym z)
+
     pub none-exists : (t : Scheduled) → Of t → testTaken f q t ≡ Refused 8 → (k : ℕ) → scheduleFor f s k ≡ NoneFound 6
     unfolding testTaken
     none-exists (NoneFound m) h x k =
-        let n = known s q a e in
+        let n = known s q start in
         none-there s q n f k (λ g. h .1 k _ _ (some-at f s q k n g))
     none-exists (Found p w) h x k = pick (figurePasses f q w) x
       where
@@ -123,15 +140,15 @@ module _ (s : Spec) (q : Rates) (e : bothRates s ≡ Both q) where
     none-taken (Found p w) h x =
         absurd (let y = x (p .count) in let g = h .schedule in let z : _≡_ {A = ℕ} 0 1 = cc in omega arith)
 
-  -- a refusal above 4 is none of the specification's
-  above : (m : ℕ) → 4 < m → Refused m ≡ Refused (specNumber s) → ⊥
-  above m h x = let z : m ≡ specNumber s = cc in omega (arith, number-few s)
+  -- a refusal from 5 to 23 is none of those that come first
+  between : (m : ℕ) → 4 < m → m < 24 → Refused m ≡ Refused (oneRangeNumber s) → ⊥
+  between m h l x = let z : m ≡ oneRangeNumber s = cc in ⊎-elim (λ k. omega arith) (λ k. omega arith) (one-range-few s)
 
   no-condition : (m : ℕ) (c : Condition) → Refused m ≡ Inconsistent c → ⊥
   no-condition m c x = let z : _≡_ {A = ℕ} 0 1 = cc in omega arith
 
-  pub refused : (m : ℕ) → 4 < m → testOf s ≡ Refused m → (consistencyOf s ≡ Consistent) × (testTaken f q (taken f s q) ≡ Refused m)
-  refused m h x = tests-taken (Refused m) x (no-condition m) (above m h)
+  pub refused : (m : ℕ) → 4 < m → m < 24 → testOf s ≡ Refused m → (consistencyOf s ≡ Consistent) × (testTaken f q (taken f s q) ≡ Refused m)
+  refused m h l x = tests-taken (Refused m) x (no-condition m) (between m h l)
 
 -- Condition 5 says that the first number of reports that reaches L is not above the last that fits P.
 pub enough-reports : (s : Spec) (q : Rates) → Known s q → consistencyOf s ≡ Consistent → exists MinimumDemand s q (firstWith MinimumDemand s q) ≡ true

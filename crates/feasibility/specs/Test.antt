@@ -1,7 +1,7 @@
 -- Document 01, "The test. If R ≥ P, take the minimum demand schedule with the least required supply over all k; it passes if that is at
 -- most B. Otherwise take the maximum supply schedule with the greatest available supply; it passes if that is at least L. Equal: the
 -- smaller k."; and what it turns down: 3, 4, "5 a rate is absent; 7 inconsistent, and this refusal carries the condition that failed
--- first; 8 no k has a schedule; 9 the schedule taken does not pass."
+-- first; 8 no k has a schedule; 9 the schedule taken does not pass." Document 02, Req 06: 24, and 25 before 5.
 use Prim.Native.Nat.{ℕ, zero, suc, _≤_}
 use mathlib.Core.Path.{_≡_}
 use mathlib.Core.Bool.{Bool, cond}
@@ -60,13 +60,13 @@ unfoldable pub testTaken : Family → Rates → Scheduled → Tested
 testTaken f q (NoneFound n) = Refused n
 testTaken f q (Found plan v) = cond (figurePasses f q v) (Passed plan v) (Refused 9)
 
--- "7 inconsistent, and this refusal carries the condition that failed first", then 8 and 9. (3 and 4 were told before.)
+-- "7 inconsistent, and this refusal carries the condition that failed first", then 8 and 9. (3, 4, 24 and 25 were told before.)
 unfoldable pub testConsistent : Consistency → Spec → Rates → Tested
 testConsistent Consistent s q = testTaken (familyOf q) q (taken (familyOf q) s q)
 testConsistent (FailsCondition c) s q = Inconsistent c
 testConsistent (NotJudged n) s q = Refused n
 
--- 3, 4 and "5 a rate is absent", then 7 to 9
+-- 3, 4, 24, 25 and "5 a rate is absent", then 7 to 9
 unfoldable pub testOf : Spec → Tested
 testOf s = ifRates (started s) (λ q. testConsistent (consistencyOf s) s q) Refused
 

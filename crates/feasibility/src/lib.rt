@@ -1,5 +1,5 @@
 // The test (document 01, "The test"): the family's schedule with the best supply figure over all k, and whether it passes. Refusals 3, 4,
-// 5 and 7 to 9.
+// 24, 25, 5 and 7 to 9.
 use consistency::Condition;
 use consistency::Consistency;
 use families::Family;
@@ -14,8 +14,7 @@ ghost use mathlib.Core.Logic.{_↔_};
 ghost use mathlib.Core.Bool.{true};
 ghost use Prim.Native.Nat.{ℕ, _≤_};
 ghost use Rattle.spec.specs.declared.BothRates.the-variants.{Both};
-ghost use Rattle.spec.specs.Limits.{IsAccepted};
-ghost use Rattle.spec.specs.Rates.{bothRates};
+ghost use Rattle.spec.specs.Rates.{started};
 ghost use Rattle.families.specs.Families.{exists};
 ghost use Rattle.feasibility.specs.Test.{familyOf, isBetter, betterOf, taken, figurePasses, testTaken, testOf};
 
@@ -67,7 +66,7 @@ struct Counts {
 }
 
 fn counts_of(f: Family, s: Spec, q: Rates) -> Counts
-    requires { ⌜ (IsAccepted s) × (bothRates s ≡ Both q) ⌝ }
+    requires { ⌜ started s ≡ Both q ⌝ }
     ensures exactly { λ r. ⌜ ((k : ℕ) → (exists f s q k ≡ true) ↔ ((r .first ≤ k) × (k ≤ r .last))) ⌝ }
     ensures few { λ r. ⌜ r .last ≤ 65535 ⌝ }
 {
@@ -85,7 +84,7 @@ fn counts_of(f: Family, s: Spec, q: Rates) -> Counts
 
 // The schedule with the best figure over all k, the smaller k of equals. Each k with a schedule is looked at once.
 fn best_schedule(f: Family, s: Spec, q: Rates) -> Scheduled
-    requires { ⌜ (IsAccepted s) × (bothRates s ≡ Both q) ⌝ }
+    requires { ⌜ started s ≡ Both q ⌝ }
     ensures { λ r. ⌜ r ≡ taken f s q ⌝ }
 {
     let counts = counts_of(f, s, q);

@@ -1,5 +1,5 @@
 -- What each call of the C interface answers, by the definitions of the operations. "Every operation given a specification" gets its
--- file's bytes here, so the refusals of reading it, 1 to 4, come first.
+-- file's bytes here, so the refusals of reading it, 1 to 4 and 24, come first.
 use Prim.Native.Nat.{ℕ}
 use mathlib.Core.Bool.{cond}
 use mathlib.Core.List.{List}

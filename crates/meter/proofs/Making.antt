@@ -28,7 +28,8 @@ module _ (former : Meter) where
       (λ a. rw (a .1 .0))
       (λ r.
       let e : made (readSpec bytes) .number ≡ r .0 = ap (λ (y : SpecRead). made y .number) (r .1 .0) in
-      absurd (omega (arith, r .1 .1 .0, eqb→eq (made (readSpec bytes) .number) 0 z)))
+      let none = eqb→eq (made (readSpec bytes) .number) 0 z in
+      absurd (⊎-elim (λ few. omega (arith, few .0)) (λ is. omega arith) (r .1 .1)))
       (spec-is-read bytes)
 
   pub refused-kept : (read : SpecRead) → T (not (eqb (made read .number) 0)) → former ≡ ifRead read fresh (λ n. former)

@@ -32,7 +32,8 @@ reportsAt = countedAt (λ x. 1)
 abbrev pub endingWith : ℕ → ℕ → ℕ → Bool
 endingWith r t u = ltb t (u + r) && leb u t
 
--- "if the list isn't empty and the offer comes before the last accepted minute plus smin"
+-- "if the list isn't empty and the offer comes before the last accepted minute plus smin"; of a second range (Req 06) nothing is kept: "The
+-- meter keeps the first range's smin."
 unfoldable pub tooEarly : Spec → List Report → ℕ → Bool
 tooEarly spec [] t = false
 tooEarly spec (x ∷ l) t = ltb t (x .minute + spec .smin)

@@ -138,14 +138,14 @@ fn made_of(read: SpecRead) -> Made
     }
 }
 
-// A meter for a specification in numbers, or the refusal 3 or 4.
+// A meter for a specification in numbers, or the refusal 3, 4 or 24.
 pub fn make(spec: Spec) -> Made
     ensures { λ r. ⌜ r ≡ made (accept spec) ⌝ }
 {
     made_of(spec::accepted(spec))
 }
 
-// A meter for a specification's file, or the refusal 1 to 4.
+// A meter for a specification's file, or the refusal 1 to 4 or 24.
 pub fn make_from(bytes: &[u8]) -> Made
     ensures { λ r. ⌜ r ≡ made (readSpec (now (bytes .entry))) ⌝ }
 {

@@ -2,7 +2,7 @@
 -- B with 15 are those of document 02, Req 02, and its offers those of Req 03; the way back from minutes, of Req 05, is ours.
 use Prim.Native.Nat.{ℕ, _+_, _*_}
 use mathlib.Core.Path.{_≡_, refl}
-use mathlib.Core.List.{List, [], _∷_}
+use mathlib.Core.List.{List, [], _∷_, _++_}
 use mathlib.Core.Bool.{Bool, true, false, _&&_}
 use lib.Dec.{eqb}
 use Rattle.spec.specs.declared.Rate.{Rate}
@@ -12,9 +12,9 @@ use Rattle.spec.specs.declared.Range.the-variants.{Absent as NoRange, Present a
 use Rattle.spec.specs.declared.Spec.{Spec}
 use Rattle.spec.specs.declared.SpecRead.{SpecRead}
 use Rattle.spec.specs.declared.SpecRead.the-variants.{Accepted, Refused as NotRead}
-use Rattle.spec.specs.Limits.{specNumber, ifAccepted, limits, order, rateLimits, rangeLimits, rangeOrder, sizeAllowed, gapAllowed, gapTop}
+use Rattle.spec.specs.Limits.{specNumber, firstNumber, ifNone, limits, order, rateLimits, rangeLimits, rangeOrder, startsAbove, inRange, sizeAllowed, gapAllowed, topOf}
 use Rattle.spec.specs.File.{readSpec}
-use Rattle.spec.specs.Rates.{ratesFrom, bothRates, started}
+use Rattle.spec.specs.Rates.{secondNumber, oneRangeNumber, ratesFrom, bothRates, started}
 use Rattle.numbers.specs.Numbers.{ceil, all}
 use Rattle.schedule.specs.Schedules.{sum, minute, heldFrom, stretch}
 use Rattle.schedule.specs.Moments.{greatest, lastReport, firstLeast, nearestReport, reportsFrom, recordsFrom}
@@ -50,7 +50,7 @@ pub record Offer : Type 0 where
 
 -- what the document says of a specification; a report is its minute and its size
 pub data Claim : Type 0 where
-  isConsistent : Claim
+  consistencyGets : (number : ℕ) → Claim
   minimumDemand : (k period total required : ℕ) → Claim
   minimumDemandReports : (k : ℕ) (minutes sizes : List ℕ) → Claim
   maximumSupply : (k period total available : ℕ) → Claim
@@ -129,6 +129,7 @@ readTo (Accepted r) s =
     && sameRate (r .supply) (s .supply)
     && sameRate (r .demand) (s .demand)
     && sameRange (r .duration) (s .duration)
+    && sameRange (r .second) (s .second)
 readTo (NotRead n) s = false
 
 offered : List Offer → List Report
@@ -146,7 +147,7 @@ answersAre [] (x ∷ xs) = false
 answersAre (a ∷ more) [] = false
 
 claimHolds : Spec → Claim → Bool
-claimHolds s isConsistent = answerIs (consistencyAnswer (consistencyOf s)) 0 []
+claimHolds s (consistencyGets n) = answerIs (consistencyAnswer (consistencyOf s)) n []
 claimHolds s (minimumDemand k π δ v) = answerIs (scheduledAnswer (scheduleFor MinimumDemand s k)) 0 (wellFormed ∷ k ∷ π ∷ δ ∷ v ∷ [])
 claimHolds s (minimumDemandReports k minutes sizes) = ofSchedule (scheduleFor MinimumDemand s k) (λ p. reportsAre p 0 minutes sizes)
 claimHolds s (maximumSupply k π δ v) = answerIs (scheduledAnswer (scheduleFor MaximumSupply s k)) 0 (wellFormed ∷ k ∷ π ∷ δ ∷ v ∷ [])
@@ -167,13 +168,13 @@ claimsHold : Spec → List Claim → Bool
 claimsHold s [] = true
 claimsHold s (c ∷ cs) = claimHolds s c && claimsHold s cs
 
--- "Written (sizes), (gaps), (B, R), (L, P)."
 pub record Sample : Type 0 where
   pub spec : Spec
   pub claims : List Claim
 
-pub sample : (dmin dmax smin smax b r l p : ℕ) → List Claim → Sample
-sample dmin dmax smin smax b r l p cs = record {
+-- a sample with a second range of gaps, which may be absent
+pub sampleWith : Range → (dmin dmax smin smax b r l p : ℕ) → List Claim → Sample
+sampleWith second dmin dmax smin smax b r l p cs = record {
   spec = record {
     dmin = dmin;
     dmax = dmax;
@@ -182,9 +183,14 @@ sample dmin dmax smin smax b r l p cs = record {
     supply = Present b r;
     demand = Present l p;
     duration = NoRange;
+    second = second;
   };
   claims = cs;
 }
+
+-- "Written (sizes), (gaps), (B, R), (L, P)."
+pub sample : (dmin dmax smin smax b r l p : ℕ) → List Claim → Sample
+sample = sampleWith NoRange
 
 -- a cycle with one gap
 pub cycle : (gap : ℕ) → List ℕ → List Pair
@@ -243,7 +249,18 @@ samples =
     -- ★E
     ∷ sample 3 10 45 80 10 79 17 159 (maximumSupply 1 79 10 20 ∷ testPasses 1 79 10 20 ∷ [])
     -- ★F
-    ∷ sample 5 5 4 4 10 10 5 20 (isConsistent ∷ testRefuses 8 ∷ [])
+    ∷ sample 5 5 4 4 10 10 5 20 (consistencyGets 0 ∷ testRefuses 8 ∷ [])
+    -- a van of two shifts (document 02, Req 06): samples/shift.spec with its two cycles, of which one has a gap between the ranges; and the
+    -- same with ranges that touch, and that do not
+    ∷ sampleWith (RangeOf 60 90) 1 10 5 15 22 60 8 90 (
+    isReadFrom (0x2F ∷ 0 ∷ 1 ∷ 0 ∷ 10 ∷ 0 ∷ 5 ∷ 0 ∷ 15 ∷ 0 ∷ 22 ∷ 0 ∷ 60 ∷ 0 ∷ 8 ∷ 0 ∷ 90 ∷ 0 ∷ 60 ∷ 0 ∷ 90 ∷ [])
+    ∷ consistencyGets 25
+    ∷ testRefuses 25
+    ∷ evenGives 90 1 8
+    ∷ cycleGets (cycle 15 (5 ∷ 5 ∷ []) ++ cycle 5 (4 ∷ []) ++ cycle 90 (8 ∷ []) ++ cycle 60 (8 ∷ [])) 0
+    ∷ cycleGets (cycle 15 (8 ∷ []) ++ cycle 30 (4 ∷ []) ++ cycle 90 (8 ∷ [])) 13 ∷ [])
+    ∷ sampleWith (RangeOf 16 90) 1 10 5 15 22 60 8 90 (cycleGets (cycle 15 (8 ∷ []) ++ cycle 30 (4 ∷ []) ++ cycle 90 (8 ∷ [])) 0 ∷ [])
+    ∷ sampleWith (RangeOf 15 90) 1 10 5 15 22 60 8 90 (consistencyGets 24 ∷ testRefuses 24 ∷ evenRefuses 24 ∷ [])
     ∷ []
 
 pub samplesHold : List Sample → Bool
@@ -252,5 +269,5 @@ samplesHold (x ∷ xs) = claimsHold (x .spec) (x .claims) && samplesHold xs
 
 -- Every value of the table is what the definitions compute.
 pub samples-hold : samplesHold samples ≡ true
-unfolding samplesHold samples sample cycle offer offered leftIs answersAre claimsHold claimHolds same answerIs reportIs reportsAre wellFormed even minuteIs betweenIs ofSchedule ofEven sameRate sameRange readTo specNumber limits order rateLimits rangeLimits rangeOrder sizeAllowed gapAllowed gapTop readSpec ifAccepted started sum minute heldFrom stretch proper run kindRun wellSize wellGap evenFirst evenSize reportOf numberOf betweenOf greatest lastReport firstLeast nearestReport reportsFrom recordsFrom consistencyOf conditionsOf boundsFitRates sizeFitsBudget gapFitsDemand demandFitsDuration fewestReportsFitBudget enoughReportsForDemand supplyCoversDemand whereRate whereRange ceil scheduleFor bothRates ratesFrom scheduled exists planFor supplyFigure required available least testOf testConsistent testTaken figurePasses taken lastCount takenUpTo betterOf isBetter familyOf evenPlan planOr10 evenPlanAt evenGap largest fits supplyFits demandFits totalOf countAt pairGap pairSize cycleRun round checkNumber cycleNumber gapsAllowed sizesAllowed supplyKept demandMet all countedAt tooEarly overBudget noPlace offerNumber after later budgetLeft offerAnswer plainAnswers
+unfolding samplesHold samples sample sampleWith cycle offer offered leftIs answersAre claimsHold claimHolds same answerIs reportIs reportsAre wellFormed even minuteIs betweenIs ofSchedule ofEven sameRate sameRange readTo specNumber firstNumber limits order rateLimits rangeLimits rangeOrder startsAbove inRange sizeAllowed gapAllowed topOf readSpec ifNone secondNumber oneRangeNumber started sum minute heldFrom stretch proper run kindRun wellSize wellGap evenFirst evenSize reportOf numberOf betweenOf greatest lastReport firstLeast nearestReport reportsFrom recordsFrom consistencyOf conditionsOf boundsFitRates sizeFitsBudget gapFitsDemand demandFitsDuration fewestReportsFitBudget enoughReportsForDemand supplyCoversDemand whereRate whereRange ceil scheduleFor bothRates ratesFrom scheduled exists planFor supplyFigure required available least testOf testConsistent testTaken figurePasses taken lastCount takenUpTo betterOf isBetter familyOf evenPlan planOr10 evenPlanAt evenGap largest fits supplyFits demandFits totalOf countAt pairGap pairSize cycleRun round checkNumber cycleNumber gapsAllowed sizesAllowed supplyKept demandMet all countedAt tooEarly overBudget noPlace offerNumber after later budgetLeft offerAnswer plainAnswers
 samples-hold = refl

@@ -18,8 +18,18 @@ use spec::Rate;
 use spec::Spec;
 use spec::SpecRead;
 
-// "Written (sizes), (gaps), (B, R), (L, P)."
-fn sample(dmin: u16, dmax: u16, smin: u16, smax: u16, b: u16, r: u16, l: u16, p: u16) -> Spec {
+// A sample with a second range of gaps, which may be absent.
+fn sample_with(
+    second: Range,
+    dmin: u16,
+    dmax: u16,
+    smin: u16,
+    smax: u16,
+    b: u16,
+    r: u16,
+    l: u16,
+    p: u16,
+) -> Spec {
     Spec {
         dmin,
         dmax,
@@ -34,7 +44,13 @@ fn sample(dmin: u16, dmax: u16, smin: u16, smax: u16, b: u16, r: u16, l: u16, p:
             minutes: p,
         },
         duration: Range::Absent,
+        second,
     }
+}
+
+// "Written (sizes), (gaps), (B, R), (L, P)."
+fn sample(dmin: u16, dmax: u16, smin: u16, smax: u16, b: u16, r: u16, l: u16, p: u16) -> Spec {
+    sample_with(Range::Absent, dmin, dmax, smin, smax, b, r, l, p)
 }
 
 fn text(t: &[u8]) {
@@ -310,6 +326,32 @@ fn samples_e_and_f() {
     test(f);
 }
 
+// A van of two shifts: gaps 5 to 15, or those of the second range.
+fn shifts(min: u16, max: u16) -> Spec {
+    sample_with(Range::Present { min, max }, 1, 10, 5, 15, 22, 60, 8, 90)
+}
+
+fn two_shifts() {
+    text(b"Two shifts\n");
+    let s = shifts(60, 90);
+    consistency(s);
+    minimum_demand(s, 1);
+    test(s);
+    even_plan(s);
+    cycle(s, &[15, 5, 15, 5, 5, 4, 90, 8, 60, 8]);
+    cycle(s, &[15, 8, 30, 4, 90, 8]);
+}
+
+// Ranges that touch are two, and a gap that was between them is allowed; ranges that overlap are refused.
+fn ranges_that_touch() {
+    text(b"Ranges that touch, that overlap\n");
+    cycle(shifts(16, 90), &[15, 8, 30, 4, 90, 8]);
+    let overlapping = shifts(15, 90);
+    consistency(overlapping);
+    test(overlapping);
+    even_plan(overlapping);
+}
+
 fn main() {
     sample_a();
     sample_a_with_28();
@@ -317,4 +359,6 @@ fn main() {
     sample_g();
     samples_c_and_d();
     samples_e_and_f();
+    two_shifts();
+    ranges_that_touch();
 }

@@ -1,4 +1,4 @@
--- Both rates of an accepted specification, and their limits.
+-- Both rates of an accepted specification with one range of gaps, and their limits.
 use Prim.Native.Nat.{ℕ, _≤_}
 use native.Mathlib.Omega.{arith}
 use mathlib.Core.Path.{_≡_, refl}
@@ -9,10 +9,12 @@ use Rattle.spec.specs.declared.Spec.{Spec}
 use Rattle.spec.specs.declared.Rates.{Rates}
 use Rattle.spec.specs.declared.BothRates.the-variants.{Both}
 use Rattle.spec.specs.Limits.{IsAccepted, rateLimits}
-use Rattle.spec.specs.Rates.{ratesFrom, bothRates}
+use Rattle.spec.specs.Rates.{ratesFrom, bothRates, started}
 use Rattle.spec.proofs.Facts.{facts, leb-iff}
+use Rattle.spec.proofs.GoingOn.{started-both, one-range-iff}
 
 pub record Known (s : Spec) (q : Rates) : Type 0 where
+  pub start : started s ≡ Both q
   pub accepted : IsAccepted s
   pub both : bothRates s ≡ Both q
   pub supply : s .supply ≡ Present (q .b) (q .r)
@@ -22,7 +24,7 @@ pub record Known (s : Spec) (q : Rates) : Type 0 where
   pub least : (1 ≤ q .l) × (q .l ≤ 20000)
   pub demand-minutes : (1 ≤ q .p) × (q .p ≤ 20160)
 
-present-limits : {n m : ℕ} {x : Rate} → x ≡ Present n m → rateLimits x ≡ true → (1 ≤ n) × (n ≤ 20000) × (1 ≤ m) × (m ≤ 20160)
+pub present-limits : {n m : ℕ} {x : Rate} → x ≡ Present n m → rateLimits x ≡ true → (1 ≤ n) × (n ≤ 20000) × (1 ≤ m) × (m ≤ 20160)
 unfolding rateLimits
 present-limits e l = let h = simp (and-eq-true-iff, leb-iff) at (rw e at l) in (omega arith, omega arith, omega arith, omega arith)
 
@@ -34,16 +36,19 @@ rates-present (Present b r) (Present l p) q e =
     let same : record { b = b; r = r; l = l; p = p } ≡ q = cc in
     rw (← same) (refl, refl)
 
-pub known : (s : Spec) (q : Rates) → IsAccepted s → bothRates s ≡ Both q → Known s q
+pub known : (s : Spec) (q : Rates) → started s ≡ Both q → Known s q
 unfolding bothRates
-known s q a e =
-    let h = rates-present (s .supply) (s .demand) q e in
+known s q e =
+    let both = started-both s q e in
+    let a = one-range-iff s .0 (both .0) .0 in
+    let h = rates-present (s .supply) (s .demand) q (both .1) in
     let f = facts s a in
     let x = present-limits (h .0) (f .supply) in
     let y = present-limits (h .1) (f .demand) in
     record {
+      start = e;
       accepted = a;
-      both = e;
+      both = both .1;
       supply = h .0;
       demand = h .1;
       budget = (x .0, x .1);

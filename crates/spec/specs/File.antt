@@ -1,4 +1,5 @@
--- Document 01, "Specification file": what its bytes stand for; "Reading a specification": refusals 1 to 4, in that order.
+-- Document 01, "Specification file": what its bytes stand for; "Reading a specification": refusals 1 to 4, in that order. Document 02,
+-- Req 06: "Bit 5 of the specification's map now brings a second gap range, after the duration"; refusal 24.
 use Prim.Native.Nat.{ℕ, _+_, _*_, _/_, _%_, _^_}
 use mathlib.Core.Bool.{Bool, cond, _&&_}
 use mathlib.Core.List.{List}
@@ -15,13 +16,13 @@ use Rattle.spec.specs.Limits.{ifAccepted}
 abbrev pub word : List ℕ → ℕ → ℕ
 word b i = getD b i 0 * 256 + getD b (i + 1) 0
 
--- bit k of the map byte m, 0 or 1: "bit 0 (the lowest) size, 1 gap, 2 supply, 3 demand, 4 duration"
+-- bit k of the map byte m, 0 or 1: "bit 0 (the lowest) size, 1 gap, 2 supply, 3 demand, 4 duration", and 5 the second gap range
 abbrev pub bit : ℕ → ℕ → ℕ
 bit m k = m / 2 ^ k % 2
 
--- bits 0 and 1 stand, and none of bits 5 to 7
+-- bits 0 and 1 stand, and neither of bits 6 and 7: "Bit 5 no longer gives 1"
 abbrev pub mapGood : ℕ → Bool
-mapGood m = eqb (m % 4) 3 && ltb m 32
+mapGood m = eqb (m % 4) 3 && ltb m 64
 
 -- "Then, in that order, only the pairs whose bit stands": sizes at 1, gaps at 5, supply at 9 where it stands, then the others
 abbrev pub demandAt : ℕ → ℕ
@@ -30,8 +31,11 @@ demandAt m = 9 + 4 * bit m 2
 abbrev pub durationAt : ℕ → ℕ
 durationAt m = demandAt m + 4 * bit m 3
 
+abbrev pub secondAt : ℕ → ℕ
+secondAt m = durationAt m + 4 * bit m 4
+
 abbrev pub fileLength : ℕ → ℕ
-fileLength m = durationAt m + 4 * bit m 4
+fileLength m = secondAt m + 4 * bit m 5
 
 -- "two 2-byte numbers each": what the pair at place i makes where its bit stands
 abbrev pub ifStands : {A : Type 0} → ℕ → A → (ℕ → ℕ → A) → List ℕ → ℕ → A
@@ -46,13 +50,15 @@ specAt m b = record {
   supply = ifStands (bit m 2) Absent Present b 9;
   demand = ifStands (bit m 3) Absent Present b (demandAt m);
   duration = ifStands (bit m 4) NoRange RangeOf b (durationAt m);
+  second = ifStands (bit m 5) NoRange RangeOf b (secondAt m);
 }
 
--- the specification, or its refusal 3 or 4
+-- the specification, or its refusal 3, 4 or 24
 abbrev pub accept : Spec → SpecRead
 accept s = ifAccepted s (Accepted s) Refused
 
--- "1 no first byte, or bit 5 to 7 stands, or bit 0 or 1 doesn't; 2 the length is not what the map calls for"; then 3 and 4
+-- "1 no first byte, or bit 5 to 7 stands, or bit 0 or 1 doesn't" (bit 5 may now); "2 the length is not what the map calls for"; then
+-- 3, 4 and 24
 unfoldable pub readSpec : List ℕ → SpecRead
 readSpec b =
     cond (ltb 0 (length b) && mapGood (getD b 0 0))

@@ -1,6 +1,6 @@
-// A specification: its numbers with two rates and a range of durations that may be absent, the limits and the order of its values,
-// and its file (document 01, "The specification"). Refusals 1 to 5. What the numbers mean for a schedule is left to the
-// crates above; `refusal` names the numbers of every refusal.
+// A specification: its numbers with two rates, a range of durations and a second range of gaps that may be absent, the limits and the
+// order of its values, and its file (document 01, "The specification"; document 02, Req 06). Refusals 1 to 5, 24 and 25. What the numbers
+// mean for a schedule is left to the crates above; `refusal` names the numbers of every refusal.
 pub mod refusal;
 
 ghost use mathlib.Core.Path.{_≡_};
@@ -8,9 +8,9 @@ ghost use Prim.Native.Nat.{_+_, _*_, _<_, _≤_};
 ghost use lib.ListN.{length};
 ghost use Rattle.spec.specs.declared.Rate.the-variants.{Absent, Present};
 ghost use Rattle.spec.specs.declared.Range.the-variants.{Absent as NoRange, Present as RangeOf};
-ghost use Rattle.spec.specs.Limits.{between, boundsLimits, rateLimits, rangeLimits, limits, rangeOrder, order, specNumber, sizeAllowed, gapAllowed};
-ghost use Rattle.spec.specs.File.{ifRead, word, demandAt, durationAt, fileLength, ifStands, specAt, accept, readSpec};
-ghost use Rattle.spec.specs.Rates.{bothRates, started, ifRates};
+ghost use Rattle.spec.specs.Limits.{between, boundsLimits, rateLimits, rangeLimits, limits, rangeOrder, order, startsAbove, inRange, firstNumber, specNumber, sizeAllowed, gapAllowed};
+ghost use Rattle.spec.specs.File.{ifRead, word, demandAt, durationAt, secondAt, fileLength, ifStands, specAt, accept, readSpec};
+ghost use Rattle.spec.specs.Rates.{secondNumber, oneRangeNumber, bothRates, started, ifRates};
 
 // A rate, which may be absent: so many records in so many minutes. A supply rate (B, R) is the most that so many minutes
 // may hold, a demand rate (L, P) the least.
@@ -19,13 +19,13 @@ pub enum Rate {
     Present { records: u16, minutes: u16 },
 }
 
-// A range, which may be absent: from `min` to `max`, as Tmin to Tmax.
+// A range, which may be absent: from `min` to `max`, as Tmin to Tmax, or the second range of gaps.
 pub enum Range {
     Absent,
     Present { min: u16, max: u16 },
 }
 
-// Sizes dmin to dmax in records, gaps smin to smax in minutes.
+// Sizes dmin to dmax in records, gaps smin to smax, or in the second range, in minutes.
 pub struct Spec {
     pub dmin: u16,
     pub dmax: u16,
@@ -34,6 +34,7 @@ pub struct Spec {
     pub supply: Rate,
     pub demand: Rate,
     pub duration: Range,
+    pub second: Range,
 }
 
 // What reading a specification file gives: an accepted specification, or the number of its refusal.
@@ -87,6 +88,26 @@ fn range_order(x: Range) -> bool
     }
 }
 
+// Whether a range starts above a number, as every absent one does.
+fn starts_above(x: Range, top: u16) -> bool
+    ensures { λ r. ⌜ r ≡ startsAbove x top ⌝ }
+{
+    match x {
+        Range::Absent => true,
+        Range::Present { min, max: _ } => top < min,
+    }
+}
+
+// Whether a range has a number, as no absent one does.
+fn in_range(x: Range, n: u16) -> bool
+    ensures { λ r. ⌜ r ≡ inRange x n ⌝ }
+{
+    match x {
+        Range::Absent => false,
+        Range::Present { min, max } => within(min, max, n),
+    }
+}
+
 fn rate_limits(x: Rate) -> bool
     ensures { λ r. ⌜ r ≡ rateLimits x ⌝ }
 {
@@ -102,32 +123,48 @@ fn in_limits(s: Spec) -> bool
     let supply = s.supply;
     let demand = s.demand;
     let duration = s.duration;
+    let second = s.second;
     bounds_limits(1000, s.dmin, s.dmax)
         & bounds_limits(20160, s.smin, s.smax)
         & rate_limits(supply)
         & rate_limits(demand)
         & range_limits(60000, duration)
+        & range_limits(20160, second)
 }
 
 fn in_order(s: Spec) -> bool
     ensures { λ r. ⌜ r ≡ order s ⌝ }
 {
     let duration = s.duration;
-    (s.dmin <= s.dmax) & (s.smin <= s.smax) & range_order(duration)
+    let second = s.second;
+    (s.dmin <= s.dmax) & (s.smin <= s.smax) & range_order(duration) & range_order(second)
+}
+
+// The first number that applies, 0 where all three hold.
+fn first_number(limits: bool, order: bool, apart: bool) -> u32
+    ensures { λ r. ⌜ r ≡ firstNumber limits order apart ⌝ }
+{
+    if !limits {
+        return refusal::LIMITS;
+    }
+    if !order {
+        return refusal::ORDER;
+    }
+    if !apart {
+        return refusal::RANGES;
+    }
+    0
 }
 
 // 0, or the number of the refusal with which every operation on a specification begins.
 pub fn spec_number(s: Spec) -> u32
     ensures { λ r. ⌜ r ≡ specNumber s ⌝ }
 {
-    if in_limits(s) {
-        if in_order(s) { 0 } else { refusal::ORDER }
-    } else {
-        refusal::LIMITS
-    }
+    let second = s.second;
+    first_number(in_limits(s), in_order(s), starts_above(second, s.smax))
 }
 
-// Whether the size, the gap is in range.
+// Whether the size is in its range, the gap in one of its own.
 pub fn size_allowed(s: Spec, size: u16) -> bool
     ensures { λ r. ⌜ r ≡ sizeAllowed s size ⌝ }
 {
@@ -137,7 +174,30 @@ pub fn size_allowed(s: Spec, size: u16) -> bool
 pub fn gap_allowed(s: Spec, gap: u16) -> bool
     ensures { λ r. ⌜ r ≡ gapAllowed s gap ⌝ }
 {
-    within(s.smin, s.smax, gap)
+    let second = s.second;
+    within(s.smin, s.smax, gap) | in_range(second, gap)
+}
+
+// 25, where there is a second range.
+fn second_number(x: Range) -> u32
+    ensures { λ r. ⌜ r ≡ secondNumber x ⌝ }
+{
+    match x {
+        Range::Absent => 0,
+        Range::Present { min: _, max: _ } => refusal::TWO_RANGES,
+    }
+}
+
+// 0, or the number of the refusal with which consistency, schedules for k reports and the test begin: these take one range of gaps.
+pub fn one_range_number(s: Spec) -> u32
+    ensures { λ r. ⌜ r ≡ oneRangeNumber s ⌝ }
+{
+    let n = spec_number(s);
+    if n != 0 {
+        return n;
+    }
+    let second = s.second;
+    second_number(second)
 }
 
 // B, R, L and P, where both rates are there, or refusal 5.
@@ -161,11 +221,12 @@ fn both_rates(s: Spec) -> BothRates
     }
 }
 
-// What schedules for k reports and the test begin with: both rates of an accepted specification, or refusal 3, 4 or 5.
+// What schedules for k reports and the test begin with: both rates of an accepted specification with one range of gaps, or refusal 3, 4,
+// 24, 25 or 5.
 pub fn started(s: Spec) -> BothRates
     ensures { λ r. ⌜ r ≡ started s ⌝ }
 {
-    let n = spec_number(s);
+    let n = one_range_number(s);
     if n != 0 {
         return BothRates::Refused(n);
     }
@@ -182,7 +243,7 @@ pub fn rates_number(q: BothRates) -> u32
     }
 }
 
-// A specification in numbers, as reading its file would give it: accepted, or the refusal 3 or 4.
+// A specification in numbers, as reading its file would give it: accepted, or the refusal 3, 4 or 24.
 pub fn accepted(s: Spec) -> SpecRead
     ensures { λ r. ⌜ r ≡ accept s ⌝ }
 {
@@ -259,11 +320,18 @@ fn duration_at(m: usize) -> usize
     demand_at(m) + 4 * (m / 8 % 2)
 }
 
+fn second_at(m: usize) -> usize
+    requires { ⌜ m < 256 ⌝ }
+    ensures { λ r. ⌜ r ≡ secondAt m ⌝ }
+{
+    duration_at(m) + 4 * (m / 16 % 2)
+}
+
 fn file_length(m: usize) -> usize
     requires { ⌜ m < 256 ⌝ }
     ensures { λ r. ⌜ r ≡ fileLength m ⌝ }
 {
-    duration_at(m) + 4 * (m / 16 % 2)
+    second_at(m) + 4 * (m / 32 % 2)
 }
 
 fn spec_at(m: usize, b: &[u8]) -> Spec
@@ -273,6 +341,7 @@ fn spec_at(m: usize, b: &[u8]) -> Spec
     let supply = rate_at(m / 4 % 2, b, 9);
     let demand = rate_at(m / 8 % 2, b, demand_at(m));
     let duration = range_at(m / 16 % 2, b, duration_at(m));
+    let second = range_at(m / 32 % 2, b, second_at(m));
     Spec {
         dmin: word_at(b, 1),
         dmax: word_at(b, 3),
@@ -281,6 +350,7 @@ fn spec_at(m: usize, b: &[u8]) -> Spec
         supply,
         demand,
         duration,
+        second,
     }
 }
 
@@ -292,7 +362,7 @@ pub fn read_spec(bytes: &[u8]) -> SpecRead
         return SpecRead::Refused(refusal::MAP);
     }
     let m = wide(bytes[0]);
-    if !((m % 4 == 3) & (m < 32)) {
+    if !((m % 4 == 3) & (m < 64)) {
         return SpecRead::Refused(refusal::MAP);
     }
     if bytes.len() != file_length(m) {

@@ -1,6 +1,6 @@
 // The numbers of the refusals of documents 01 and 02, by name. The definitions in `specs/` give the numbers.
 
-// Reading a specification; LIMITS and ORDER begin every operation that is given one.
+// Reading a specification; LIMITS, ORDER and RANGES begin every operation that is given one.
 pub const MAP: u32 = 1;
 
 pub const LENGTH: u32 = 2;
@@ -9,7 +9,11 @@ pub const LIMITS: u32 = 3;
 
 pub const ORDER: u32 = 4;
 
-// Consistency, schedules for k reports, the test.
+pub const RANGES: u32 = 24;
+
+// Consistency, schedules for k reports, the test; each begins with TWO_RANGES, after the numbers above.
+pub const TWO_RANGES: u32 = 25;
+
 pub const RATE_ABSENT: u32 = 5;
 
 pub const NO_SCHEDULE: u32 = 6;

@@ -1,4 +1,4 @@
--- The first 22 bytes of a file get the answer that the file gets (proofs/Front.antt).
+-- The first 26 bytes of a file get the answer that the file gets (proofs/Front.antt).
 use mathlib.Core.Path.{_∙_, ap}
 use Rattle.even.specs.Even.{evenOf}
 use Rattle.evenplan.proofs.Front.{even-of-front}

@@ -35,7 +35,7 @@ unfolding planFor
 well-formed-requires c κs =
     let start = c .before .before .before .before .before .before .before .before in
     let e = c .before .before .before .before .before .before .enum-told .given .1 in
-    let n = numbers _ (plan-proper _ _ (known _ _ (start .pre .0) (start .pre .1)) MinimumDemand _ (rw e at (start .pre .2))) in
+    let n = numbers _ (plan-proper _ _ (known _ _ (start .pre .0)) MinimumDemand _ (rw e at (start .pre .1))) in
     rw (c .larger .ensures, c .before .before .times2 .ensures, c .before .before .before .smaller .ensures, c .before .before .before .before .before .times .ensures) (omega arith, omega arith)
 
 enum-told-2 : tie.Need-enum-told-2
@@ -64,7 +64,7 @@ unfolding planFor
 well-formed-requires-2 c κs =
     let start = c .before .before .before .before .before .before .before .before in
     let e = c .before .before .before .before .before .before .enum-told2 .given .1 in
-    let n = numbers _ (plan-proper _ _ (known _ _ (start .pre .0) (start .pre .1)) MaximumSupply _ (rw e at (start .pre .2))) in
+    let n = numbers _ (plan-proper _ _ (known _ _ (start .pre .0)) MaximumSupply _ (rw e at (start .pre .1))) in
     rw (c .smaller2 .ensures, c .before .before .times4 .ensures, c .before .before .before .larger2 .ensures, c .before .before .before .before .before .times3 .ensures) (omega arith, omega arith)
 
 returns : tie.Need-returns

@@ -1,6 +1,5 @@
--- 3, 4 and 5 by `started`; then what `scheduled_with` gives is the definition's by its contract.
+-- 3, 4, 24, 25 and 5 by `started`; then what `scheduled_with` gives is the definition's by its contract.
 use mathlib.Core.Path.{sym, _∙_}
-use Rattle.spec.proofs.GoingOn.{started-both}
 use Rattle.families.specs.Families.{scheduleFor}
 use borrow.Author.Needs.{needs}
 use Rattle.families.proofs.schedule_for.Statement.{statement}
@@ -27,7 +26,7 @@ returns c =
 scheduled-with-requires : tie.Need-scheduled-with-requires
 scheduled-with-requires c κs =
     let there = c .before in
-    started-both _ _ (sym (there .before .before .started .ensures) ∙ there .start .given .1)
+    sym (there .before .before .started .ensures) ∙ there .start .given .1
 
 returns-2 : tie.Need-returns-2
 unfolding scheduleFor

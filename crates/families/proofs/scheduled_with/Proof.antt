@@ -15,13 +15,11 @@ returns c = sym (scheduled-none _ _ _ _ (failed (c .before .schedule-exists .ens
 
 plan-for-requires : tie.Need-plan-for-requires
 plan-for-requires c κs =
-    let start = c .before .before in
-    (start .pre .0, start .pre .1, held (c .before .schedule-exists .ensures) (c .if1 .left))
+    (c .before .before .pre, held (c .before .schedule-exists .ensures) (c .if1 .left))
 
 supply-figure-requires : tie.Need-supply-figure-requires
 supply-figure-requires c κs =
-    let start = c .before .before .before in
-    let n = known _ _ (start .pre .0) (start .pre .1) in
+    let n = known _ _ (c .before .before .before .pre) in
     let e = held (c .before .before .schedule-exists .ensures) (c .before .if1 .left) in
     rw (c .plan-for .ensures) (plan-proper _ _ n _ _ e)
 

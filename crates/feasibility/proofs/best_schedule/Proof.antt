@@ -22,7 +22,7 @@ counts-of-requires c κs = c .pre
 
 loop-holds : tie.Need-loop-holds Inv-loop μ-loop
 loop-holds c =
-    let n = known _ _ (c .before .pre .0) (c .before .pre .1) in
+    let n = known _ _ (c .before .pre) in
     (starts _ _ n _ (c .counts-of .ensures .0), some-first _ _ n _ (c .counts-of .ensures .0))
 
 schedule-for-requires : tie.Need-schedule-for-requires Inv-loop μ-loop
@@ -41,7 +41,7 @@ loop-again : tie.Need-loop-again Inv-loop μ-loop
 loop-again c =
     let loop = c .before .before .before in
     let start = loop .before .before in
-    let n = known _ _ (start .pre .0) (start .pre .1) in (
+    let n = known _ _ (start .pre) in (
       rw (c .better-of .ensures, c .before .schedule-for .ensures)
           (turns _ _ n _ (loop .before .counts-of .ensures .0) _ (loop .loop .inv .1) (loop .loop .inv .0)),
       omega arith,
@@ -50,7 +50,7 @@ loop-again c =
 returns : tie.Need-returns Inv-loop μ-loop
 returns c =
     let start = c .before .before .before in
-    let n = known _ _ (start .pre .0) (start .pre .1) in
+    let n = known _ _ (start .pre) in
     ends _ _ n _ (c .before .before .counts-of .ensures .0) _ (c .before .loop .inv .1) (c .loop-test .left) (c .before .loop .inv .0)
 
 pub best-schedule-spec : {M : Type 1} → statement M

@@ -34,7 +34,7 @@ cast-t10 : tie.Need-cast-t10
 cast-t10 c = search needs
 
 div-t11 : tie.Need-div-t11
-div-t11 c = facts _ (c .before .before .before .before .before .before .before .pre .0) .gap-low
+div-t11 c = facts _ (known _ _ (c .before .before .before .before .before .before .before .pre) .accepted) .gap-low
 
 enum-told-2 : tie.Need-enum-told-2
 enum-told-2 c = search needs
@@ -60,13 +60,13 @@ cast-t17 : tie.Need-cast-t17
 cast-t17 c = search needs
 
 div-t18 : tie.Need-div-t18
-div-t18 c = facts _ (c .before .before .before .before .before .before .before .pre .0) .size-low
+div-t18 c = facts _ (known _ _ (c .before .before .before .before .before .before .before .pre) .accepted) .size-low
 
 returns : tie.Need-returns
 unfolding firstWith lastWith
 returns c =
     let start = c .before .before .before .before .before .before .before in
-    let n = known _ _ (start .pre .0) (start .pre .1) in
+    let n = known _ _ (start .pre) in
     rw (c .before .before .before .before .before .enum-told .given .1, c .before .before .ceil-div .ensures)
     (λ k. exists-iff _ _ n MinimumDemand k, omega (arith, div-le-self (start .args .q .p) (start .args .s .smin)))
 
@@ -74,7 +74,7 @@ returns-2 : tie.Need-returns-2
 unfolding firstWith lastWith
 returns-2 c =
     let start = c .before .before .before .before .before .before .before in
-    let n = known _ _ (start .pre .0) (start .pre .1) in
+    let n = known _ _ (start .pre) in
     rw (c .before .before .before .before .before .enum-told2 .given .1, c .before .before .ceil-div2 .ensures)
     (λ k. exists-iff _ _ n MaximumSupply k, omega (arith, div-le-self (start .args .q .b) (start .args .s .dmin)))
 

@@ -1,7 +1,6 @@
--- The refusals in document 01's order: 3, 4 and 5 by `started`, 7 with the condition; then what is taken is tested. Each return rewrites
+-- The refusals in their order: 3, 4, 24, 25 and 5 by `started`, 7 with the condition; then what is taken is tested. Each return rewrites
 -- the definition by what the calls before it gave.
 use mathlib.Core.Path.{sym, _∙_}
-use Rattle.spec.proofs.GoingOn.{started-both}
 use Rattle.feasibility.specs.Test.{testConsistent, testOf}
 use borrow.Author.Needs.{needs}
 use Rattle.feasibility.proofs.test.Statement.{statement}
@@ -37,7 +36,7 @@ family-of-requires c κs = search needs
 best-schedule-requires : tie.Need-best-schedule-requires
 best-schedule-requires c κs =
     let there = c .before .before .before .before .before in
-    started-both _ _ (sym (there .before .before .started .ensures) ∙ there .start .given .1)
+    sym (there .before .before .started .ensures) ∙ there .start .given .1
 
 test-taken-requires : tie.Need-test-taken-requires
 test-taken-requires c κs = search needs

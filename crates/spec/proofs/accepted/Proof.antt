@@ -1,7 +1,7 @@
 -- The code asks for the number first, as the definition does.
 use borrow.Author.Needs.{needs}
 use borrow.Author.Tests.{eq-eqb, ne-eqb}
-use Rattle.spec.specs.Limits.{ifAccepted}
+use Rattle.spec.specs.Limits.{ifNone}
 use Rattle.spec.proofs.accepted.Statement.{statement}
 use Rattle.spec.proofs.accepted.Tie as tie
 
@@ -9,11 +9,11 @@ spec-number-requires : tie.Need-spec-number-requires
 spec-number-requires c κs = search needs
 
 returns : tie.Need-returns
-unfolding ifAccepted
+unfolding ifNone
 returns c = rw (← c .before .spec-number .ensures, eq-eqb _ _ (c .if1 .taken))
 
 returns-2 : tie.Need-returns-2
-unfolding ifAccepted
+unfolding ifNone
 returns-2 c = rw (← c .before .spec-number .ensures, ne-eqb _ _ (c .if1 .left))
 
 pub accepted-spec : {M : Type 1} → statement M

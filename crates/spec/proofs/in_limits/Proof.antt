@@ -19,14 +19,18 @@ rate-limits-requires-2 c κs = search needs
 range-limits-requires : tie.Need-range-limits-requires
 range-limits-requires c κs = search needs
 
+range-limits-requires-2 : tie.Need-range-limits-requires-2
+range-limits-requires-2 c κs = search needs
+
 returns : tie.Need-returns
 unfolding limits
 returns c = rw (
-  c .before .before .before .before .bounds-limits .ensures,
-  c .before .before .before .bounds-limits2 .ensures,
-  c .before .before .rate-limits .ensures,
-  c .before .rate-limits2 .ensures,
-  c .range-limits .ensures,
+  c .before .before .before .before .before .bounds-limits .ensures,
+  c .before .before .before .before .bounds-limits2 .ensures,
+  c .before .before .before .rate-limits .ensures,
+  c .before .before .rate-limits2 .ensures,
+  c .before .range-limits .ensures,
+  c .range-limits2 .ensures,
 )
 
 pub in-limits-spec : {M : Type 1} → statement M
@@ -38,4 +42,5 @@ in-limits-spec =
     rate-limits-requires
     rate-limits-requires-2
     range-limits-requires
+    range-limits-requires-2
     returns)

@@ -18,6 +18,12 @@ duration-at-requires c κs = search needs
 range-at-requires : tie.Need-range-at-requires
 range-at-requires c κs = search needs
 
+second-at-requires : tie.Need-second-at-requires
+second-at-requires c κs = search needs
+
+range-at-requires-2 : tie.Need-range-at-requires-2
+range-at-requires-2 c κs = search needs
+
 word-at-requires : tie.Need-word-at-requires
 word-at-requires c κs = search needs
 
@@ -32,11 +38,13 @@ word-at-requires-4 c κs = search needs
 
 returns : tie.Need-returns
 returns c = rw (
-  c .before .before .before .before .before .before .before .before .rate-at .ensures,
-  c .before .before .before .before .before .before .rate-at2 .ensures,
-  c .before .before .before .before .before .before .before .demand-at .ensures,
-  c .before .before .before .before .range-at .ensures,
-  c .before .before .before .before .before .duration-at .ensures,
+  c .before .before .before .before .before .before .before .before .before .before .rate-at .ensures,
+  c .before .before .before .before .before .before .before .before .rate-at2 .ensures,
+  c .before .before .before .before .before .before .before .before .before .demand-at .ensures,
+  c .before .before .before .before .before .before .range-at .ensures,
+  c .before .before .before .before .before .before .before .duration-at .ensures,
+  c .before .before .before .before .range-at2 .ensures,
+  c .before .before .before .before .before .second-at .ensures,
   c .before .before .before .word-at .ensures,
   c .before .before .word-at2 .ensures,
   c .before .word-at3 .ensures,
@@ -52,6 +60,8 @@ spec-at-spec =
     rate-at-requires-2
     duration-at-requires
     range-at-requires
+    second-at-requires
+    range-at-requires-2
     word-at-requires
     word-at-requires-2
     word-at-requires-3
