@@ -76,7 +76,7 @@ fn line_of(name: &str, calls: [&dyn Fn() -> u32; 3]) {
 }
 
 fn both_rates(size: (u64, u64), gap: (u64, u64), supply: (u64, u64), demand: (u64, u64)) -> Spec {
-    Spec { size, gap, supply: Some(supply), demand: Some(demand), duration: None }
+    Spec { size, gap, supply: Some(supply), demand: Some(demand), duration: None, second: None }
 }
 
 /// So many pairs whose gaps and sizes change from pair to pair, within the specification's ranges.
@@ -146,10 +146,13 @@ fn plans() {
         let spec_file = spec::write(&spec);
         line(name, |calls| calls.test(&spec_file), || literal_test(&spec_file));
     }
+    let none = both_rates((2, 1_000), (1, 20_160), (1, 20_160), (20_000, 20_160));
     let even_inputs = [
         ("even plan, found at gap 20,160", both_rates((1, 1_000), (1, 20_160), (1_000, 20_160), (1, 20_160))),
         ("even plan, found at gap 1", both_rates((1, 1_000), (1, 20_160), (20_000, 20_000), (1_000, 1_000))),
-        ("even plan, none at gaps 1 to 20,160", both_rates((2, 1_000), (1, 20_160), (1, 20_160), (20_000, 20_160))),
+        ("even plan, none at gaps 1 to 20,160", none.clone()),
+        // Of the gaps that are tried one by one about half are in each range.
+        ("even plan, none at 1 to 141 or 142 to 20,160", Spec { gap: (1, 141), second: Some((142, 20_160)), ..none }),
     ];
     for (name, spec) in even_inputs {
         let spec_file = spec::write(&spec);

@@ -65,7 +65,7 @@ fn literal(offers: &Offers) -> impl Fn() -> u32 + '_ {
 }
 
 fn of_rate(supply: Option<(u64, u64)>) -> Spec {
-    Spec { size: (1, 1_000), gap: (1, 20_160), supply, demand: None, duration: None }
+    Spec { size: (1, 1_000), gap: (1, 20_160), supply, demand: None, duration: None, second: None }
 }
 
 fn making() {

@@ -50,7 +50,7 @@ pub fn all() {
         "{:<60} {:>10} {:>8} {:>10} {:>8} {:>10} {:>8}",
         "one call, one rate; ratios to the same with 1 minute", "library", "ratio", "plain C", "ratio", "literal", "ratio"
     );
-    let no_rate = |gap| Spec { size: (1, 1), gap, supply: None, demand: None, duration: None };
+    let no_rate = |gap| Spec { size: (1, 1), gap, supply: None, demand: None, duration: None, second: None };
     let supply = |gap| move |r| Spec { supply: Some((20_000, r)), ..no_rate(gap) };
     let demand = |gap| move |p| Spec { demand: Some((1, p)), ..no_rate(gap) };
     // With gap 1 the longest R would hold more than the greatest B, and with any other the shortest P less than the least L.

@@ -75,6 +75,12 @@ static struct spec_file sample_d(void) { return spec_of(15, 8, 3, 5, 35, 46, 10,
 static struct spec_file sample_e(void) { return spec_of(15, 8, 3, 10, 45, 80, 10, 79, 17, 159); }
 static struct spec_file sample_f(void) { return spec_of(15, 8, 5, 5, 4, 4, 10, 10, 5, 20); }
 
+/* The van of two shifts of samples/shift.spec, with these bounds of its second range. */
+static struct spec_file two_shifts(int lower, int upper)
+{
+    return spec_of(47, 10, 1, 10, 5, 15, 22, 60, 8, 90, lower, upper);
+}
+
 /* ---- places that a call is lent ---- */
 
 /* Five numbers, among them what a call writes; the rest must stay. */
@@ -277,17 +283,22 @@ static void samples_of_minutes(void)
     end();
 }
 
-static uint32_t check_sizes(struct spec_file s, uint16_t gap, size_t count, const uint16_t *sizes)
+/* The check of a cycle, which the loader's call must repeat of its file. */
+static uint32_t check_pairs(struct spec_file s, size_t count, const struct maxeltu_pair *cycle)
 {
-    struct maxeltu_pair pairs[MAXELTU_MAX_PAIRS];
     uint8_t file[MAXELTU_MAX_CYCLE_FILE];
-    uint32_t written;
-    for (size_t i = 0; i < count; i++)
-        pairs[i] = (struct maxeltu_pair){ .gap = gap, .size = sizes[i] };
-    uint32_t answer = maxeltu_check_cycle(SPEC(s), pairs, count);
-    CHECK(maxeltu_write_cycle(pairs, count, file, sizeof file, &written) == 0);
+    uint32_t written, answer = maxeltu_check_cycle(SPEC(s), cycle, count);
+    CHECK(maxeltu_write_cycle(cycle, count, file, sizeof file, &written) == 0);
     CHECK(maxeltu_verdict(SPEC(s), file, written) == answer);
     return answer;
+}
+
+static uint32_t check_sizes(struct spec_file s, uint16_t gap, size_t count, const uint16_t *sizes)
+{
+    struct maxeltu_pair cycle[MAXELTU_MAX_PAIRS];
+    for (size_t i = 0; i < count; i++)
+        cycle[i] = (struct maxeltu_pair){ .gap = gap, .size = sizes[i] };
+    return check_pairs(s, count, cycle);
 }
 
 static void samples_of_cycles(void)
@@ -300,6 +311,52 @@ static void samples_of_cycles(void)
     CHECK(check_sizes(sample_b(15), 4, 2, (uint16_t[]){ 3, 2 }) == MAXELTU_GAP);
     CHECK(check_sizes(sample_b(15), 5, 2, (uint16_t[]){ 3, 4 }) == MAXELTU_SIZE);
     CHECK(check_sizes(sample_b(15), 5, 2, (uint16_t[]){ 1, 2 }) == MAXELTU_SIZE);
+    end();
+}
+
+/* One pair of this gap, alone and last in a round with gaps of both ranges. */
+static uint32_t check_gap(struct spec_file s, uint16_t gap)
+{
+    struct maxeltu_pair cycle[] = { { gap, 5 }, { 15, 5 }, { 60, 5 }, { gap, 5 } };
+    uint32_t answer = check_pairs(s, 1, cycle);
+    CHECK(check_pairs(s, 3, cycle + 1) == answer);
+    return answer;
+}
+
+static void sample_of_two_ranges(void)
+{
+    begin("two ranges of gaps");
+    static const struct maxeltu_pair good[] = { { 15, 5 }, { 15, 5 }, { 5, 4 }, { 90, 8 }, { 60, 8 } };
+    static const struct maxeltu_pair gap_between[] = { { 15, 8 }, { 30, 4 }, { 90, 8 } };
+    CHECK(check_pairs(two_shifts(60, 90), 5, good) == MAXELTU_OK);
+    CHECK(check_pairs(two_shifts(16, 90), 5, good) == MAXELTU_OK);
+    CHECK(check_pairs(two_shifts(61, 90), 5, good) == MAXELTU_GAP);
+    CHECK(check_pairs(two_shifts(60, 89), 5, good) == MAXELTU_GAP);
+    CHECK(check_pairs(two_shifts(60, 90), 3, gap_between) == MAXELTU_GAP);
+    CHECK(check_pairs(two_shifts(16, 90), 3, gap_between) == MAXELTU_OK);
+    /* Some 60 minutes hold 22 of these records, some 90 only 8. */
+    CHECK(check_pairs(spec_of(47, 10, 1, 10, 5, 15, 21, 60, 8, 90, 60, 90), 5, good) == MAXELTU_TOO_FULL);
+    CHECK(check_pairs(spec_of(47, 10, 1, 10, 5, 15, 22, 60, 9, 90, 60, 90), 5, good) == MAXELTU_TOO_THIN);
+    CHECK(check_pairs(spec_of(47, 10, 5, 10, 5, 15, 22, 60, 8, 90, 60, 90), 5, good) == MAXELTU_SIZE);
+    /* Without rates: both bounds of both ranges, and what lies beside them. */
+    struct spec_file apart = spec_of(35, 6, 1, 10, 5, 15, 60, 90), touching = spec_of(35, 6, 1, 10, 5, 15, 16, 90);
+    static const uint16_t in_range[] = { 5, 6, 14, 15, 60, 61, 89, 90 }, in_none[] = { 0, 1, 4, 91, 1000, 65535 };
+    static const uint16_t between_them[] = { 16, 17, 30, 58, 59 };
+    for (size_t i = 0; i < sizeof in_range / sizeof *in_range; i++)
+        CHECK(check_gap(apart, in_range[i]) == MAXELTU_OK && check_gap(touching, in_range[i]) == MAXELTU_OK);
+    for (size_t i = 0; i < sizeof in_none / sizeof *in_none; i++)
+        CHECK(check_gap(apart, in_none[i]) == MAXELTU_GAP && check_gap(touching, in_none[i]) == MAXELTU_GAP);
+    for (size_t i = 0; i < sizeof between_them / sizeof *between_them; i++)
+        CHECK(check_gap(apart, between_them[i]) == MAXELTU_GAP && check_gap(touching, between_them[i]) == MAXELTU_OK);
+    CHECK(even_plan(two_shifts(60, 90)) == 0 && hold(3, 1, 90, 8));
+    CHECK(even_plan(apart) == 0 && hold(3, 1, 90, 1));
+    /* 40 records in 70 minutes are 4 reports of 10: at gap 17, in the second range, in none, or in the first. */
+    CHECK(even_plan(spec_of(43, 8, 3, 10, 5, 15, 40, 70, 16, 90)) == 0 && hold(3, 4, 68, 40));
+    CHECK(even_plan(spec_of(43, 8, 3, 10, 5, 15, 40, 70, 18, 90)) == 0 && hold(3, 4, 60, 40));
+    CHECK(even_plan(spec_of(43, 8, 3, 10, 5, 17, 40, 70, 18, 90)) == 0 && hold(3, 4, 68, 40));
+    CHECK(even_plan(spec_of(43, 8, 3, 10, 18, 19, 40, 70, 20, 90)) == MAXELTU_NO_EVEN_PLAN && untouched());
+    /* The duration stands before the second range. */
+    CHECK(even_plan(spec_of(51, 8, 1, 10, 5, 15, 60, 90, 16, 30)) == 0 && hold(3, 1, 30, 1));
     end();
 }
 
@@ -325,12 +382,12 @@ static void refused_everywhere(struct spec_file s, uint32_t refusal)
 
 static void refusals_of_specifications(void)
 {
-    begin("refusals 1 to 4 of every call");
+    begin("refusals 1 to 4 and 24 of every call");
     struct spec_file s = sample_b(15);
     s.length = 0;
     refused_everywhere(s, MAXELTU_SPEC_MAP);
     s = sample_b(15);
-    static const uint8_t bad_maps[] = { 0x2F, 0x4F, 0x8F, 0x0E, 0x0D, 0x00, 0xFF };
+    static const uint8_t bad_maps[] = { 0x4F, 0x8F, 0x6F, 0xAF, 0x0E, 0x0D, 0x2E, 0x2D, 0x00, 0x20, 0xFF };
     for (size_t i = 0; i < sizeof bad_maps; i++) {
         s.bytes[0] = bad_maps[i];
         refused_everywhere(s, MAXELTU_SPEC_MAP);
@@ -343,12 +400,22 @@ static void refusals_of_specifications(void)
     s = sample_b(15);
     s.bytes[0] = 0x1F;
     refused_everywhere(s, MAXELTU_SPEC_LENGTH);
-    static const int limits[] = { 1000, 1000, 20160, 20160, 20000, 20160, 20000, 20160, 60000, 60000 };
-    for (size_t i = 0; i < 10; i++) {
+    s.bytes[0] = 0x2F;
+    refused_everywhere(s, MAXELTU_SPEC_LENGTH);
+    s = two_shifts(60, 90);
+    s.bytes[0] = 0x0F;
+    refused_everywhere(s, MAXELTU_SPEC_LENGTH);
+    /* Every wrong length of the longest file, up to one byte over. */
+    uint8_t longest[MAXELTU_MAX_SPEC_FILE + 1] = { 0x3F };
+    for (size_t length = 1; length <= sizeof longest; length++)
+        if (length != MAXELTU_MAX_SPEC_FILE)
+            CHECK(maxeltu_verdict(longest, length, longest, 0) == MAXELTU_SPEC_LENGTH);
+    static const int limits[] = { 1000, 1000, 20160, 20160, 20000, 20160, 20000, 20160, 60000, 60000, 20160, 20160 };
+    for (size_t i = 0; i < sizeof limits / sizeof *limits; i++) {
         static const int wrong[] = { 0, 1, 65535 };
         for (size_t w = 0; w < 3; w++) {
-            /* Also the wrong order, which comes second. */
-            s = spec_of(31, 10, 3, 2, 6, 5, 15, 26, 10, 20, 60, 50);
+            /* Also the wrong order, which comes second, and a second range below the first, which comes third. */
+            s = spec_of(63, 12, 3, 2, 6, 5, 15, 26, 10, 20, 60, 50, 4, 3);
             int value = wrong[w] == 1 ? limits[i] + 1 : wrong[w];
             s.bytes[1 + 2 * i] = (uint8_t)(value >> 8);
             s.bytes[2 + 2 * i] = (uint8_t)value;
@@ -358,6 +425,46 @@ static void refusals_of_specifications(void)
     refused_everywhere(spec_of(15, 8, 3, 2, 5, 5, 15, 26, 10, 20), MAXELTU_SPEC_ORDER);
     refused_everywhere(spec_of(15, 8, 2, 3, 6, 5, 15, 26, 10, 20), MAXELTU_SPEC_ORDER);
     refused_everywhere(spec_of(31, 10, 2, 3, 5, 5, 15, 26, 10, 20, 60, 59), MAXELTU_SPEC_ORDER);
+    refused_everywhere(two_shifts(90, 89), MAXELTU_SPEC_ORDER);
+    /* A wrong order comes before a second range that starts too low. */
+    refused_everywhere(two_shifts(15, 14), MAXELTU_SPEC_ORDER);
+    refused_everywhere(spec_of(47, 10, 1, 10, 15, 5, 22, 60, 8, 90, 6, 90), MAXELTU_SPEC_ORDER);
+    refused_everywhere(spec_of(51, 8, 1, 10, 5, 15, 60, 59, 15, 90), MAXELTU_SPEC_ORDER);
+    refused_everywhere(two_shifts(15, 90), MAXELTU_SPEC_RANGES);
+    refused_everywhere(two_shifts(15, 15), MAXELTU_SPEC_RANGES);
+    refused_everywhere(two_shifts(1, 4), MAXELTU_SPEC_RANGES);
+    refused_everywhere(two_shifts(1, 20160), MAXELTU_SPEC_RANGES);
+    refused_everywhere(spec_of(35, 6, 1, 10, 5, 15, 15, 90), MAXELTU_SPEC_RANGES);
+    refused_everywhere(spec_of(63, 12, 1, 10, 5, 15, 22, 60, 8, 90, 90, 60000, 15, 90), MAXELTU_SPEC_RANGES);
+    end();
+}
+
+/* The calls that take one range of gaps alone answer 25, for any k, and write nothing. */
+static void refused_for_two_ranges(struct spec_file s)
+{
+    static const uint32_t any_k[] = { 0, 1, 4, 20160, 0xFFFFFFFF };
+    CHECK(consistency(s) == MAXELTU_TWO_RANGES && untouched());
+    CHECK(test(s) == MAXELTU_TWO_RANGES && untouched());
+    for (size_t i = 0; i < sizeof any_k / sizeof *any_k; i++) {
+        CHECK(min_demand(s, any_k[i]) == MAXELTU_TWO_RANGES && untouched());
+        CHECK(max_supply(s, any_k[i]) == MAXELTU_TWO_RANGES && untouched());
+    }
+}
+
+static void refusals_of_two_ranges(void)
+{
+    begin("refusal 25 of consistency, schedules and test");
+    refused_for_two_ranges(two_shifts(60, 90));
+    refused_for_two_ranges(two_shifts(16, 90));
+    /* It comes before absent rates, */
+    refused_for_two_ranges(spec_of(35, 6, 1, 10, 5, 15, 60, 90));
+    refused_for_two_ranges(spec_of(39, 8, 1, 10, 5, 15, 22, 60, 60, 90));
+    refused_for_two_ranges(spec_of(43, 8, 1, 10, 5, 15, 8, 90, 60, 90));
+    /* before inconsistency (dmax above B, P above Tmin), and before a test that finds nothing or does not pass. */
+    refused_for_two_ranges(spec_of(47, 10, 1, 23, 5, 15, 22, 60, 8, 90, 60, 90));
+    refused_for_two_ranges(spec_of(63, 12, 1, 10, 5, 15, 22, 60, 8, 90, 89, 90, 60, 90));
+    refused_for_two_ranges(spec_of(47, 10, 5, 5, 4, 4, 10, 10, 5, 20, 60, 90));
+    refused_for_two_ranges(spec_of(47, 10, 3, 10, 45, 55, 28, 220, 17, 158, 60, 90));
     end();
 }
 
@@ -602,6 +709,24 @@ static void layout_of_a_meter(void)
     fresh_meter(spec_of(27, 8, 2, 3, 5, 9, 10, 20, 20, 30));
     wanted = (struct maxeltu_meter){ .dmin = 2, .dmax = 3, .smin = 5, .budget = 20000 };
     CHECK(memcmp(&lent.meter, &wanted, sizeof wanted) == 0);
+    fresh_meter(two_shifts(60, 90));
+    wanted = (struct maxeltu_meter){ .dmin = 1, .dmax = 10, .smin = 5, .budget = 22, .window = 60 };
+    CHECK(memcmp(&lent.meter, &wanted, sizeof wanted) == 0);
+    end();
+}
+
+/* Of two ranges a meter keeps smin alone: also a gap between them, or above both, is accepted. */
+static void meter_of_two_ranges(void)
+{
+    begin("meter: two ranges of gaps");
+    fresh_meter(two_shifts(60, 90));
+    CHECK(accepted(0, 1, 21));
+    CHECK(refused(MAXELTU_GAP, 4, 1, 21));
+    CHECK(accepted(5, 1, 20));
+    CHECK(accepted(21, 1, 19));
+    CHECK(accepted(80, 1, 20));
+    CHECK(accepted(171, 1, 21));
+    CHECK(accepted(20331, 1, 21));
     end();
 }
 
@@ -755,7 +880,9 @@ int main(int argc, char **argv)
     samples_of_plans();
     samples_of_minutes();
     samples_of_cycles();
+    sample_of_two_ranges();
     refusals_of_specifications();
+    refusals_of_two_ranges();
     refusals_of_plans();
     refusals_of_reports();
     refusals_of_minutes();
@@ -763,6 +890,7 @@ int main(int argc, char **argv)
     writing_cycles();
     longest_cycle();
     layout_of_a_meter();
+    meter_of_two_ranges();
     sample_of_a_meter();
     refusals_of_offers();
     last_minutes_of_a_meter();

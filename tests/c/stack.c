@@ -55,31 +55,34 @@ static size_t depth(void (*call)(void))
 
 /* ---- inputs ---- */
 
-/* A specification with both rates, and a cycle; its last pair is named, and the others follow from the count. */
+/* A specification with both rates and two ranges of gaps, and a cycle; its last pair is named, and the others follow from the
+ * count. */
 struct input {
     uint32_t answer;
-    uint16_t numbers[8]; /* dmin dmax, smin smax, B R, L P */
+    uint16_t numbers[10]; /* dmin dmax, smin smax, B R, L P, second range */
     size_t count;
     struct maxeltu_pair last;
 };
 
 static const struct input inputs[] = {
-    { MAXELTU_OK, { 1, 9, 1, 20, 20000, 60, 1, 60 }, 1, { 7, 5 } },
-    { MAXELTU_OK, { 1, 9, 1, 20, 20000, 20160, 1, 20160 }, 1, { 7, 5 } },
-    { MAXELTU_OK, { 1, 9, 1, 20, 20000, 60, 1, 60 }, 512, { 7, 5 } },
-    { MAXELTU_OK, { 1, 9, 1, 20, 20000, 20160, 1, 20160 }, 512, { 7, 5 } },
-    { MAXELTU_SPEC_LIMITS, { 0, 9, 1, 20, 20000, 60, 1, 60 }, 512, { 7, 5 } },
-    { MAXELTU_SPEC_ORDER, { 1, 9, 21, 20, 20000, 60, 1, 60 }, 512, { 7, 5 } },
-    { MAXELTU_COUNT, { 1, 9, 1, 20, 20000, 60, 1, 60 }, 0, { 7, 5 } },
-    { MAXELTU_COUNT, { 1, 9, 1, 20, 20000, 60, 1, 60 }, 513, { 7, 5 } },
-    { MAXELTU_GAP, { 1, 9, 1, 20, 20000, 60, 1, 60 }, 512, { 21, 5 } },
-    { MAXELTU_SIZE, { 1, 9, 1, 20, 20000, 60, 1, 60 }, 512, { 7, 10 } },
-    { MAXELTU_TOO_FULL, { 1, 9, 1, 20, 1, 60, 1, 60 }, 512, { 7, 5 } },
-    { MAXELTU_TOO_THIN, { 1, 9, 1, 20, 20000, 60, 20000, 60 }, 512, { 7, 5 } },
+    { MAXELTU_OK, { 1, 9, 1, 20, 20000, 60, 1, 60, 30, 40 }, 1, { 7, 5 } },
+    { MAXELTU_OK, { 1, 9, 1, 20, 20000, 20160, 1, 20160, 30, 40 }, 1, { 7, 5 } },
+    { MAXELTU_OK, { 1, 9, 1, 20, 20000, 60, 1, 60, 30, 40 }, 512, { 7, 5 } },
+    { MAXELTU_OK, { 1, 9, 1, 20, 20000, 20160, 1, 20160, 30, 40 }, 512, { 7, 5 } },
+    { MAXELTU_OK, { 1, 9, 1, 20, 20000, 60, 1, 60, 30, 40 }, 512, { 40, 5 } },
+    { MAXELTU_SPEC_LIMITS, { 0, 9, 1, 20, 20000, 60, 1, 60, 30, 40 }, 512, { 7, 5 } },
+    { MAXELTU_SPEC_ORDER, { 1, 9, 21, 20, 20000, 60, 1, 60, 30, 40 }, 512, { 7, 5 } },
+    { MAXELTU_SPEC_RANGES, { 1, 9, 1, 20, 20000, 60, 1, 60, 20, 40 }, 512, { 7, 5 } },
+    { MAXELTU_COUNT, { 1, 9, 1, 20, 20000, 60, 1, 60, 30, 40 }, 0, { 7, 5 } },
+    { MAXELTU_COUNT, { 1, 9, 1, 20, 20000, 60, 1, 60, 30, 40 }, 513, { 7, 5 } },
+    { MAXELTU_GAP, { 1, 9, 1, 20, 20000, 60, 1, 60, 30, 40 }, 512, { 21, 5 } },
+    { MAXELTU_SIZE, { 1, 9, 1, 20, 20000, 60, 1, 60, 30, 40 }, 512, { 7, 10 } },
+    { MAXELTU_TOO_FULL, { 1, 9, 1, 20, 1, 60, 1, 60, 30, 40 }, 512, { 7, 5 } },
+    { MAXELTU_TOO_THIN, { 1, 9, 1, 20, 20000, 60, 20000, 60, 30, 40 }, 512, { 7, 5 } },
 };
 
 /* What the calls are lent: the input, as bytes and as pairs, and room to read and to write a cycle. */
-static uint8_t spec_file[1 + 2 * 8], cycle_file[2 + 5 * (MAXELTU_MAX_PAIRS + 1)], bytes[MAXELTU_MAX_CYCLE_FILE];
+static uint8_t spec_file[1 + 2 * 10], cycle_file[2 + 5 * (MAXELTU_MAX_PAIRS + 1)], bytes[MAXELTU_MAX_CYCLE_FILE];
 static struct maxeltu_pair pairs[MAXELTU_MAX_PAIRS + 1], places[MAXELTU_MAX_PAIRS];
 static size_t count, cycle_length;
 
@@ -93,7 +96,7 @@ static uint8_t *put(uint8_t *at, size_t number)
 static void lend(const struct input *input)
 {
     uint8_t *at = spec_file;
-    *at++ = 15;
+    *at++ = 47;
     for (size_t i = 0; i < COUNT_OF(input->numbers); i++)
         at = put(at, input->numbers[i]);
     count = input->count;

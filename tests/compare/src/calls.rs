@@ -9,20 +9,22 @@ use reference::schedule::{obeys, LAID_OUT};
 use reference::{cycle, even, file, plan, spec, verdict, Kind, Pair, Plan, Refusal, Spec};
 
 pub fn all(runner: &mut Runner) {
-    runner.random("verdict", RUNS, &[0, 1, 2, 3, 4, 12, 13, 14, 15, 16, 17, 18, 19, 21], verdict_case);
-    runner.random("consistency", RUNS, &[0, 1, 2, 3, 4, 73, 74, 75, 76], consistency_case);
-    runner.random("minimum demand", RUNS, &[0, 1, 2, 3, 4, 5, 6], min_demand_case);
-    runner.random("maximum supply", RUNS, &[0, 1, 2, 3, 4, 5, 6], max_supply_case);
-    runner.random("test", RUNS, &[0, 1, 2, 3, 4, 5, 73, 74, 75, 76, 8, 9], test_case);
+    runner.random("verdict", RUNS, &[0, 1, 2, 3, 4, 12, 13, 14, 15, 16, 17, 18, 19, 21, 24], verdict_case);
+    runner.random("consistency", RUNS, &[0, 1, 2, 3, 4, 24, 25, 73, 74, 75, 76], consistency_case);
+    runner.random("minimum demand", RUNS, &[0, 1, 2, 3, 4, 5, 6, 24, 25], min_demand_case);
+    runner.random("maximum supply", RUNS, &[0, 1, 2, 3, 4, 5, 6, 24, 25], max_supply_case);
+    runner.random("test", RUNS, &[0, 1, 2, 3, 4, 5, 73, 74, 75, 76, 8, 9, 24, 25], test_case);
     runner.random("test at the limits", RUNS / 8_000, &[0, 8, 9], test_at_the_limits_case);
-    runner.random("even plan, every gap counted", RUNS, &[0, 1, 2, 3, 4, 10], even_case);
+    runner.random("even plan, every gap counted", RUNS, &[0, 1, 2, 3, 4, 10, 24], even_case);
+    runner.random("even plan of two ranges", RUNS, &[0, 1, 2, 3, 10], even_of_two_ranges_case);
     runner.random("even plan, size lists searched", RUNS / 4, &[0, 10], even_search_case);
     runner.random("report", RUNS, &[0, 11], report_case);
-    runner.random("check cycle", RUNS, &[0, 1, 2, 3, 4, 12, 13, 14, 15, 16], check_case);
+    let of_both_ranges = [100, 113, 114, 115, 116];
+    runner.random("check cycle", RUNS, &[&[0, 1, 2, 3, 4, 12, 13, 14, 15, 16, 24], &of_both_ranges[..]].concat(), check_case);
     runner.random("read cycle", RUNS, &[0, 12, 17, 18, 19, 20, 21], read_case);
     runner.random("read cycle, cut off or too long", RUNS, &[12, 17, 18, 19, 20, 21], cut_or_over_case);
     runner.random("write cycle", RUNS, &[0, 12, 20], write_case);
-    runner.random("plans obey the rules", RUNS / 2, &[0, 1, 2], obeying_case);
+    runner.random("plans obey the rules", RUNS / 2, &[0, 1, 2, 3], obeying_case);
 }
 
 pub fn hex(bytes: &[u8]) -> String {
@@ -56,12 +58,17 @@ fn verdict_case(random: &mut Random, library: &mut Library) -> Verdict {
 fn consistency_case(random: &mut Random, library: &mut Library) -> Verdict {
     let file = generate::spec_file(random);
     let before = random.places();
-    let wanted = match spec::read(&file).map(|spec| feasibility::failing_condition(&spec)) {
-        Err(answer) => Outcome { answer, places: before },
-        Ok(None) => Outcome { answer: 0, places: before },
-        Ok(Some(condition)) => Outcome { answer: 7, places: [condition] },
-    };
+    let wanted = consistency_outcome(&file, before);
     same(with_condition(wanted), library.consistency(&file, before), wanted, || hex(&file))
+}
+
+/// What the reference answers of a file, and what the place for the condition holds afterwards.
+pub fn consistency_outcome(file: &[u8], before: [u32; 1]) -> Outcome<1> {
+    match spec::read(file).map_err(Failure::Refused).and_then(|spec| feasibility::consistency(&spec)) {
+        Ok(()) => Outcome { answer: 0, places: before },
+        Err(Failure::Inconsistent(condition)) => Outcome { answer: 7, places: [condition] },
+        Err(Failure::Refused(answer)) => Outcome { answer, places: before },
+    }
 }
 
 /// The answer, 7 being told apart by its condition: 73 to 76.
@@ -114,7 +121,7 @@ fn max_supply_case(random: &mut Random, library: &mut Library) -> Verdict {
 /// About how many reports the reference's test looks at: the numbers of reports that it tries, times the reports of one.
 fn steps_of_test(spec: &Spec) -> u64 {
     let (Some((b, r)), Some((l, p))) = (spec.supply, spec.demand) else { return 0 };
-    if feasibility::failing_condition(spec).is_some() {
+    if feasibility::consistency(spec).is_err() {
         return 0;
     }
     let (first, last) =
@@ -165,6 +172,11 @@ fn test_case(random: &mut Random, library: &mut Library) -> Verdict {
             let near = generate::near_spec(random, SMALL);
             generate::damaged(random, spec::write(&near))
         }
+        2 => {
+            let near = generate::near_spec_of_one_range(random, TINY);
+            let second = Some(generate::stray_second(random, near.gap.1));
+            spec::write(&Spec { second, ..near })
+        }
         _ => spec::write(&spec_for_test(random)),
     };
     test_of(&file, random, library)
@@ -196,6 +208,7 @@ fn spec_at_the_limits(random: &mut Random) -> Spec {
         supply: Some((random.between(10_000, 20_000), longest(random))),
         demand: Some((random.between(1, 20_000), longest(random))),
         duration: None,
+        second: None,
     };
     if random.once_in(3) {
         // The other branch, with fewer k: by report it is slower.
@@ -233,6 +246,26 @@ fn even_case(random: &mut Random, library: &mut Library) -> Verdict {
     same(wanted.answer, library.even_plan(&file, before), wanted, || hex(&file))
 }
 
+/// It counts as 1 where the plan's gap is of the first range, 2 where of the second, and 10 where there is none; where a gap between the
+/// ranges is longer and would do, as 3 and 0 in place of 1 and 10.
+fn even_of_two_ranges_case(random: &mut Random, library: &mut Library) -> Verdict {
+    let scale = generate::scale(random);
+    let spec = generate::near_spec_of_two_ranges(random, scale);
+    let second = spec.second.expect("a second range");
+    let file = spec::write(&spec);
+    let before = random.places();
+    let wanted = even_outcome(Ok(spec.clone()), even::counts_fit, before);
+    let between_would_do = (spec.gap.1 + 1..second.0).any(|gap| even::counts_fit(&spec, gap));
+    let met = match (wanted.answer, between_would_do) {
+        (0, _) if wanted.places[1] / wanted.places[0] >= second.0 as u32 => 2,
+        (0, false) => 1,
+        (0, true) => 3,
+        (_, false) => 10,
+        (_, true) => 0,
+    };
+    same(met, library.even_plan(&file, before), wanted, || hex(&file))
+}
+
 /// A specification small enough that every list of sizes can be tried: at most 3 sizes (seldom 4), and few reports in a window.
 fn spec_for_search(random: &mut Random) -> Spec {
     let (sizes, reports) = if random.once_in(50) { (4, 8) } else { (3, 7) };
@@ -251,7 +284,7 @@ fn even_search_case(random: &mut Random, library: &mut Library) -> Verdict {
     let file = spec::write(&spec);
     let before = random.places();
     let wanted = even_outcome(Ok(spec.clone()), even::list_exists, before);
-    for gap in spec.gap.0..=spec.gap.1 {
+    for gap in spec.gaps() {
         if even::list_exists(&spec, gap) != even::counts_fit(&spec, gap) {
             return Err(format!("at gap {gap} the search and the count differ on {}", hex(&file)));
         }
@@ -324,11 +357,21 @@ fn walked(plan: plan::Plan, i: u64) -> Result<(u64, u64), Refusal> {
     made
 }
 
+/// The answer counts as 100 more where the cycle has gaps of both ranges.
 fn check_case(random: &mut Random, library: &mut Library) -> Verdict {
     let (spec, pairs) = generate::spec_and_cycle(random);
     let file = if random.once_in(40) { generate::spec_file(random) } else { spec::write(&spec) };
-    let answer = spec::read(&file).map_or_else(|refusal| refusal, |spec| cycle::check(&spec, &pairs));
-    same(answer, library.check_cycle(&file, &pairs), answer, || format!("spec {} pairs {pairs:?}", hex(&file)))
+    let (answer, both_ranges) = match spec::read(&file) {
+        Ok(spec) => (cycle::check(&spec, &pairs), has_gaps_of_both_ranges(&spec, &pairs)),
+        Err(answer) => (answer, false),
+    };
+    let met = answer + 100 * u32::from(both_ranges);
+    same(met, library.check_cycle(&file, &pairs), answer, || format!("spec {} pairs {pairs:?}", hex(&file)))
+}
+
+fn has_gaps_of_both_ranges(spec: &Spec, pairs: &[Pair]) -> bool {
+    let has_gap_of = |(lower, upper)| pairs.iter().any(|pair| (lower..=upper).contains(&pair.gap.into()));
+    has_gap_of(spec.gap) && spec.second.is_some_and(has_gap_of)
 }
 
 fn some_pair(random: &mut Random) -> Pair {
@@ -439,10 +482,13 @@ fn write_case(random: &mut Random, library: &mut Library) -> Verdict {
 }
 
 /// The plans that the library yields run by the four rules. It counts as 0 where the test passes one, 1 where only an even plan
-/// exists, 2 where neither.
+/// exists, 2 where neither, and 3 where there is an even plan of two ranges, which the test does not take.
 fn obeying_case(random: &mut Random, library: &mut Library) -> Verdict {
     let scale = random.pick(&[TINY, SMALL, SMALL, MID]);
-    let mut spec = generate::near_spec_with_rates(random, scale);
+    let mut spec = match random.below(3) {
+        0 => generate::near_spec_of_two_ranges(random, scale),
+        _ => generate::near_spec_with_rates(random, scale),
+    };
     if random.once_in(2) {
         make_consistent(random, &mut spec, scale);
     }
@@ -459,6 +505,7 @@ fn obeying_case(random: &mut Random, library: &mut Library) -> Verdict {
     }
     Ok(match (tested.answer, even.answer) {
         (0, _) => 0,
+        (25, 0) => 3,
         (_, 0) => 1,
         _ => 2,
     })

@@ -1,6 +1,6 @@
 //! Checks whose answers are written out. Each is made twice: of the library, and of the reference.
 
-use crate::calls::expected;
+use crate::calls::{consistency_outcome, expected};
 use crate::group::Runner;
 use crate::library::{Library, Outcome};
 use crate::ring::{Meter, BYTES};
@@ -13,7 +13,7 @@ use std::path::{Path, PathBuf};
 type Numbers = (u64, u64);
 
 pub fn no_rates(size: Numbers, gap: Numbers) -> Spec {
-    Spec { size, gap, supply: None, demand: None, duration: None }
+    Spec { size, gap, supply: None, demand: None, duration: None, second: None }
 }
 
 pub fn supply_only(size: Numbers, gap: Numbers, supply: Numbers) -> Spec {
@@ -28,8 +28,13 @@ pub fn both_rates(size: Numbers, gap: Numbers, supply: Numbers, demand: Numbers)
     Spec { supply: Some(supply), demand: Some(demand), ..no_rates(size, gap) }
 }
 
+/// The same specification with this second range of gaps.
+pub fn with_second(spec: &Spec, second: Numbers) -> Spec {
+    Spec { second: Some(second), ..spec.clone() }
+}
+
 /// What lent places hold before each call.
-const HELD: u32 = 0xA5A5_A5A5;
+pub const HELD: u32 = 0xA5A5_A5A5;
 const HELD_PAIR: Pair = Pair { gap: 0xA5A5, size: 0xA5A5 };
 const HELD_BYTE: u8 = 0xA5;
 
@@ -130,9 +135,24 @@ impl Checks {
             Some(condition) => Outcome { answer: 7, places: [condition] },
             None => Outcome { answer: 0, places: [HELD] },
         };
-        let made = spec::read(&file).map(|spec| outcome(feasibility::failing_condition(&spec)));
-        let reference = made.unwrap_or_else(|answer| expected(Err(answer), [HELD]));
-        self.both(&format!("{name}, consistency"), got, reference, outcome(wanted));
+        self.both(&format!("{name}, consistency"), got, consistency_outcome(&file, [HELD]), outcome(wanted));
+    }
+
+    /// A specification with a second range of gaps: consistency, the schedules for any k and the test give 25, and write nothing.
+    pub fn two_ranges(&mut self, name: &str, spec: &Spec) {
+        let file = spec::write(spec);
+        let (one, three, five) = (expected(Err(25), [HELD]), expected(Err(25), [HELD; 3]), expected(Err(25), [HELD; 5]));
+        let got = (self.library.consistency(&file, [HELD]), self.library.test(&file, [HELD; 5]));
+        self.holds(format!("library, {name}, consistency and test: {got:?}, not 25"), got == (one, five));
+        let reference = (feasibility::consistency(spec), feasibility::test(spec, u64::MAX));
+        let refused = Failure::Refused(25);
+        self.holds(format!("reference, {name}: {reference:?}, not 25"), reference == (Err(refused), Err(refused)));
+        for k in [0, 1, 4, 20_160, u32::MAX] {
+            let got = [self.library.min_demand(&file, k, [HELD; 3]), self.library.max_supply(&file, k, [HELD; 3])];
+            self.holds(format!("library, {name}, schedules for {k}: {got:?}, not 25"), got == [three; 2]);
+            let reference = [feasibility::min_demand(spec, k.into()), feasibility::max_supply(spec, k.into(), u64::MAX)];
+            self.holds(format!("reference, {name}, schedules for {k}: {reference:?}, not 25"), reference == [Err(25); 2]);
+        }
     }
 
     /// Gap, k and total; or the refusal.
@@ -281,7 +301,7 @@ impl Checks {
         let (got, kept) = remade(&mut self.library, file);
         self.both(&format!("{name}, meter"), got, spec::read(file).err().unwrap_or(0), wanted);
         self.holds(format!("library, {name}, bytes of the meter"), kept == (wanted != 0));
-        if wanted != 0 {
+        if wanted != 0 && got == wanted {
             let again = self.library.make_no_meter(file, &Meter::of_bytes([HELD_BYTE; BYTES]));
             self.holds(format!("library, {name}, meter again: {again}"), again == wanted);
         }

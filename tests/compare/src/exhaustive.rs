@@ -1,7 +1,8 @@
-//! Every specification with small numbers, for each of them every short cycle and every short list of offers to its meter, and every
-//! small even plan: nothing here is left to chance.
+//! Every specification with small numbers, of one range of gaps and of two, for each of them every short cycle; every short list of
+//! offers to every small meter; and every small even plan: nothing here is left to chance.
 
-use crate::calls::with_condition;
+use crate::calls::{consistency_outcome, expected, with_condition};
+use crate::checks::HELD;
 use crate::group::{same, Counts, Met, Runner, Verdict};
 use crate::library::{Library, Outcome};
 use crate::meters::Trial;
@@ -11,82 +12,164 @@ use reference::meter::{stretch, Report};
 use reference::schedule::LAID_OUT;
 use reference::{cycle, even, spec, Pair, Spec};
 
-/// Sizes and gaps are 1 to this, rates and their windows 1 to `RATE`.
-const RANGE: u64 = 3;
-const RATE: u64 = 8;
+type Range = (u64, u64);
 
-/// The ordered pairs of 1 to `RANGE`.
-const RANGES: [(u64, u64); 6] = [(1, 1), (1, 2), (1, 3), (2, 2), (2, 3), (3, 3)];
+/// Specifications of small numbers: which ranges of sizes they have, and which of gaps, the second of which may be absent. Sizes and gaps
+/// of cycles are 1 to these.
+struct Small {
+    sizes: Vec<Range>,
+    gaps: Vec<(Range, Option<Range>)>,
+    most_size: u64,
+    most_gap: u64,
+}
+
+/// The ranges within 1 to `most`.
+fn ranges(most: u64) -> impl Iterator<Item = Range> {
+    (1..=most).flat_map(move |lower| (lower..=most).map(move |upper| (lower, upper)))
+}
+
+fn of_one_range() -> Small {
+    let gaps = ranges(3).map(|gap| (gap, None)).collect();
+    Small { sizes: ranges(3).collect(), gaps, most_size: 3, most_gap: 3 }
+}
+
+/// The ranges touch, or leave one or two gaps out.
+fn of_two_ranges() -> Small {
+    let pairs = ranges(4).flat_map(|gap| ranges(4).map(move |second| (gap, second)));
+    let gaps = pairs.filter(|(gap, second)| second.0 > gap.1).map(|(gap, second)| (gap, Some(second))).collect();
+    Small { sizes: ranges(2).collect(), gaps, most_size: 2, most_gap: 4 }
+}
+
+/// Rates and their windows are 1 to this.
+const RATE: u64 = 8;
+const RATES: u64 = RATE * RATE + 1;
 
 /// A rate from its number: 0 is the absent one.
 fn rate(number: u64) -> Option<(u64, u64)> {
     (number > 0).then(|| ((number - 1) / RATE + 1, (number - 1) % RATE + 1))
 }
 
-const RATES: u64 = RATE * RATE + 1;
-const SPECIFICATIONS: u64 = 6 * 6 * RATES * RATES;
+impl Small {
+    fn specifications(&self) -> u64 {
+        (self.sizes.len() * self.gaps.len()) as u64 * RATES * RATES
+    }
 
-fn specification(mut number: u64) -> Spec {
-    let mut digit = |base: u64| {
-        let digit = number % base;
-        number /= base;
-        digit
-    };
-    let (size, gap) = (RANGES[digit(6) as usize], RANGES[digit(6) as usize]);
-    Spec { size, gap, supply: rate(digit(RATES)), demand: rate(digit(RATES)), duration: None }
+    fn specification(&self, mut number: u64) -> Spec {
+        let mut digit = |base: u64| {
+            let digit = number % base;
+            number /= base;
+            digit
+        };
+        let size = self.sizes[digit(self.sizes.len() as u64) as usize];
+        let (gap, second) = self.gaps[digit(self.gaps.len() as u64) as usize];
+        Spec { size, gap, supply: rate(digit(RATES)), demand: rate(digit(RATES)), duration: None, second }
+    }
+
+    fn pairs(&self) -> u64 {
+        self.most_size * self.most_gap
+    }
+
+    /// A pair from its number.
+    fn pair(&self, number: u64) -> Pair {
+        Pair { gap: (number / self.most_size + 1) as u16, size: (number % self.most_size + 1) as u16 }
+    }
+
+    /// The cycles of 1 or 2 pairs.
+    fn cycles(&self) -> u64 {
+        self.pairs() * (self.pairs() + 1)
+    }
+
+    fn cycle(&self, number: u64) -> Vec<Pair> {
+        let (first, second) = (number % self.pairs(), number / self.pairs());
+        // The last number of the second pair stands for none.
+        let second = (second < self.pairs()).then(|| self.pair(second));
+        [self.pair(first)].into_iter().chain(second).collect()
+    }
 }
 
 pub fn all(runner: &mut Runner) {
-    runner.every("every small specification: test", SPECIFICATIONS, &[0, 5, 73, 74, 75, 76, 8, 9], test_case);
-    runner.every("every small specification: even plan, size lists searched", SPECIFICATIONS, &[0, 10], even_case);
-    runner.every(
-        "every small specification: every cycle of 1 or 2 pairs",
-        SPECIFICATIONS * CYCLES,
-        &[0, 13, 14, 15, 16],
-        cycle_case,
-    );
+    let met = MustMeet { consistency: &[0, 73, 74, 75, 76], schedules: &[0, 5, 6], test: &[0, 5, 73, 74, 75, 76, 8, 9] };
+    every_small(runner, "every small specification", &of_one_range(), met);
+    let met = MustMeet { consistency: &[25], schedules: &[25], test: &[25] };
+    every_small(runner, "every small specification of two ranges", &of_two_ranges(), met);
     runner.every("every small even plan: rows of reports", COUNTS * TOTALS, &[0, 1], row_case);
     runner.every("every small meter: every list of 4 offers", METERS * OFFERS, &[0, 13, 14, 15], offers_case);
 }
 
-fn test_case(number: u64, library: &mut Library) -> Verdict {
-    let spec = specification(number);
-    let got = library.test(&spec::write(&spec), [0; 5]);
-    let (answer, places) = match feasibility::test(&spec, LAID_OUT) {
-        Ok((plan, supply)) => (0, [0, plan.k, plan.period, plan.total, supply]),
-        Err(Failure::Inconsistent(condition)) => (7, [condition.into(), 0, 0, 0, 0]),
-        Err(Failure::Refused(answer)) => (answer, [0; 5]),
+/// The answers that the calls which take one range alone must meet.
+struct MustMeet {
+    consistency: &'static [u32],
+    schedules: &'static [u32],
+    test: &'static [u32],
+}
+
+fn every_small(runner: &mut Runner, name: &str, small: &Small, met: MustMeet) {
+    let specifications = small.specifications();
+    runner.every(&format!("{name}: consistency"), specifications, met.consistency, |number, library| {
+        consistency_case(&small.specification(number), library)
+    });
+    runner.every(&format!("{name}: schedules for each small k"), specifications * KS, met.schedules, |number, library| {
+        schedules_case(&small.specification(number / KS), number % KS, library)
+    });
+    runner.every(&format!("{name}: test"), specifications, met.test, |number, library| {
+        test_case(&small.specification(number), library)
+    });
+    runner.every(&format!("{name}: even plan, size lists searched"), specifications, &[0, 10], |number, library| {
+        even_case(&small.specification(number), library)
+    });
+    let cycles = small.cycles();
+    runner.every(
+        &format!("{name}: every cycle of 1 or 2 pairs"),
+        specifications * cycles,
+        &[0, 13, 14, 15, 16],
+        |number, library| cycle_case(&small.specification(number / cycles), &small.cycle(number % cycles), library),
+    );
+}
+
+fn consistency_case(spec: &Spec, library: &mut Library) -> Verdict {
+    let file = spec::write(spec);
+    let wanted = consistency_outcome(&file, [HELD]);
+    same(with_condition(wanted), library.consistency(&file, [HELD]), wanted, || format!("{spec:?}"))
+}
+
+/// How many k are asked for, from 0 on: one more than any of these specifications has a schedule with.
+const KS: u64 = RATE + 2;
+
+/// Both schedules; both answers are counted.
+fn schedules_case(spec: &Spec, k: u64, library: &mut Library) -> Result<Counts, String> {
+    let demand = feasibility::min_demand(spec, k);
+    let supply = feasibility::max_supply(spec, k, LAID_OUT);
+    let wanted = [demand, supply].map(|made| expected(made.map(|(plan, figure)| [plan.period, plan.total, figure]), [HELD; 3]));
+    let (file, k) = (spec::write(spec), k as u32);
+    let got = [library.min_demand(&file, k, [HELD; 3]), library.max_supply(&file, k, [HELD; 3])];
+    same(0, got, wanted, || format!("{spec:?} k {k}"))?;
+    let mut counts = Counts::new();
+    for outcome in wanted {
+        outcome.answer.add_to(&mut counts);
+    }
+    Ok(counts)
+}
+
+fn test_case(spec: &Spec, library: &mut Library) -> Verdict {
+    let got = library.test(&spec::write(spec), [HELD; 5]);
+    let wanted = match feasibility::test(spec, LAID_OUT) {
+        Ok((plan, supply)) => expected(Ok([HELD.into(), plan.k, plan.period, plan.total, supply]), [HELD; 5]),
+        Err(Failure::Inconsistent(condition)) => Outcome { answer: 7, places: [condition, HELD, HELD, HELD, HELD] },
+        Err(Failure::Refused(answer)) => expected(Err(answer), [HELD; 5]),
     };
-    let wanted = Outcome { answer, places: places.map(|n: u64| n as u32) };
     same(with_condition(wanted), got, wanted, || format!("{spec:?}"))
 }
 
-fn even_case(number: u64, library: &mut Library) -> Verdict {
-    let spec = specification(number);
-    let got = library.even_plan(&spec::write(&spec), [0; 3]);
-    let (answer, places) = match even::even_plan(&spec, even::list_exists) {
-        Ok(plan) => (0, [plan.k, plan.period, plan.total]),
-        Err(answer) => (answer, [0; 3]),
-    };
-    same(answer, (got.answer, got.places.map(u64::from)), (answer, places), || format!("{spec:?}"))
+fn even_case(spec: &Spec, library: &mut Library) -> Verdict {
+    let got = library.even_plan(&spec::write(spec), [HELD; 3]);
+    let made = even::even_plan(spec, even::list_exists);
+    let wanted = expected(made.map(|plan| [plan.k, plan.period, plan.total]), [HELD; 3]);
+    same(wanted.answer, got, wanted, || format!("{spec:?}"))
 }
 
-/// A pair from its number, of gaps and sizes 1 to `RANGE`.
-fn pair(number: u64) -> Pair {
-    Pair { gap: (number / RANGE + 1) as u16, size: (number % RANGE + 1) as u16 }
-}
-
-const PAIRS: u64 = RANGE * RANGE;
-const CYCLES: u64 = PAIRS * (PAIRS + 1);
-
-fn cycle_case(number: u64, library: &mut Library) -> Verdict {
-    let spec = specification(number / CYCLES);
-    let (first, second) = (number % PAIRS, number % CYCLES / PAIRS);
-    // The last number of the second pair stands for none.
-    let both = [pair(first), pair(second)];
-    let pairs = if second == PAIRS { &both[..1] } else { &both[..] };
-    let answer = cycle::check(&spec, pairs);
-    same(answer, library.check_cycle(&spec::write(&spec), pairs), answer, || format!("{spec:?} {pairs:?}"))
+fn cycle_case(spec: &Spec, pairs: &[Pair], library: &mut Library) -> Verdict {
+    let answer = cycle::check(spec, pairs);
+    same(answer, library.check_cycle(&spec::write(spec), pairs), answer, || format!("{spec:?} {pairs:?}"))
 }
 
 /// Even plans of 1 to this many reports, with so many totals each, from k on.
@@ -121,7 +204,7 @@ fn meter_specification(number: u64) -> Spec {
     let smin = number / 3 % 2 + 1;
     let rate = number / 6;
     let supply = (rate > 0).then(|| ((rate - 1) / METER_RATE + 1, (rate - 1) % METER_RATE + 1));
-    Spec { size, gap: (smin, smin), supply, demand: None, duration: None }
+    Spec { size, gap: (smin, smin), supply, demand: None, duration: None, second: None }
 }
 
 /// Offers are at minutes 0 to `MINUTES` − 1, of sizes 1 to 3: the last is out of every range, and so is the first of some.
@@ -139,7 +222,7 @@ fn offers_case(number: u64, library: &mut Library) -> Result<Counts, String> {
 /// One offer, and after it every list of so many more: no R minutes, from whatever minute on, hold more than B accepted records.
 fn and_all_after(mut trial: Trial, offer: u64, more: u64, counts: &mut Counts, library: &mut Library) -> Result<(), String> {
     let offered = Report { minute: offer / 3, size: offer % 3 + 1 };
-    trial.offer(offered, 0xA5A5_A5A5, library)?.add_to(counts);
+    trial.offer(offered, HELD, library)?.add_to(counts);
     if let Some((b, r)) = trial.spec().supply {
         if let Some(a) = (0..MINUTES).find(|&a| stretch(&trial.taken, a, r) > b) {
             return Err(format!("{r} minutes from {a} on hold more than {b} records of {:?}", trial.taken));

@@ -1,5 +1,6 @@
 //! Random inputs: specifications, cycles and files of every size, most of them near the place where an answer changes.
 
+use crate::checks::no_rates;
 use crate::random::Random;
 use reference::cycle::Cycle;
 use reference::schedule::least_and_most_by_report;
@@ -35,12 +36,34 @@ fn range(random: &mut Random, most: u64) -> (u64, u64) {
     (lower, upper)
 }
 
-/// A specification within all limits, whose rates lie near what one size at one gap gives.
+/// A specification within all limits, whose rates lie near what one size at one gap gives. One in three has a second range of gaps.
 pub fn near_spec(random: &mut Random, scale: Scale) -> Spec {
-    let size = range(random, scale.size);
+    if random.once_in(3) {
+        near_spec_of_two_ranges(random, scale)
+    } else {
+        near_spec_of_one_range(random, scale)
+    }
+}
+
+pub fn near_spec_of_one_range(random: &mut Random, scale: Scale) -> Spec {
     let gap = range(random, scale.gap);
-    let typical_size = random.between(size.0, size.1);
     let typical_gap = random.between(gap.0, gap.1);
+    near_spec_at(random, scale, gap, typical_gap)
+}
+
+/// The gap that the rates are near to is in either range, or between them.
+pub fn near_spec_of_two_ranges(random: &mut Random, scale: Scale) -> Spec {
+    let gap = range(random, scale.gap - 1);
+    let (lower, upper) = range(random, scale.gap - gap.1);
+    let second = (gap.1 + lower, gap.1 + upper);
+    let (least, most) = random.pick(&[gap, second, (gap.1, second.0)]);
+    let typical_gap = random.between(least, most);
+    Spec { second: Some(second), ..near_spec_at(random, scale, gap, typical_gap) }
+}
+
+fn near_spec_at(random: &mut Random, scale: Scale, gap: (u64, u64), typical_gap: u64) -> Spec {
+    let size = range(random, scale.size);
+    let typical_size = random.between(size.0, size.1);
     let rate = |random: &mut Random| {
         let window = match random.below(3) {
             // Where a whole number of reports just fits, or just does not.
@@ -64,13 +87,13 @@ pub fn near_spec(random: &mut Random, scale: Scale) -> Spec {
         let tmin = if random.once_in(2) { random.near(around, 1, 60_000) } else { random.between(1, scale.duration) };
         (tmin, random.between(tmin, 60_000))
     });
-    Spec { size, gap, supply, demand, duration }
+    Spec { size, gap, supply, demand, duration, second: None }
 }
 
-/// Like `near_spec`, with both rates.
+/// Like `near_spec_of_one_range`, with both rates.
 pub fn near_spec_with_rates(random: &mut Random, scale: Scale) -> Spec {
     loop {
-        let spec = near_spec(random, scale);
+        let spec = near_spec_of_one_range(random, scale);
         if spec.supply.is_some() && spec.demand.is_some() {
             return spec;
         }
@@ -97,7 +120,27 @@ fn edge_spec(random: &mut Random) -> Spec {
         supply: (!random.once_in(8)).then_some(supply),
         demand: (!random.once_in(8)).then_some(demand),
         duration: random.once_in(2).then_some(duration),
+        second: random.once_in(2).then(|| stray_second(random, gap.1)),
     }
+}
+
+/// A second range of gaps that touches the first, lies anywhere above it, reaches into it or lies below it; seldom with its bounds the
+/// wrong way round, or out of their limits.
+pub fn stray_second(random: &mut Random, smax: u64) -> (u64, u64) {
+    let lower = match random.below(8) {
+        0 | 1 => smax + 1,
+        2 => smax,
+        3 => random.between(1, 20_160),
+        4 => random.pick(&[0, 1, 20_160, 20_161]),
+        _ => random.between(smax.min(20_160), 20_160),
+    };
+    let upper = match random.below(8) {
+        0 => lower,
+        1 => lower.saturating_sub(1),
+        2 => random.pick(&[0, 20_160, 20_161, 65_535]),
+        _ => random.between(lower.min(20_160), 20_160),
+    };
+    (lower.min(65_535), upper.min(65_535))
 }
 
 /// The file of a specification, seldom damaged.
@@ -145,6 +188,11 @@ fn count(random: &mut Random) -> usize {
     }
 }
 
+/// A range of gaps of the specification.
+fn range_of_gaps(random: &mut Random, spec: &Spec) -> (u64, u64) {
+    spec.second.filter(|_| random.once_in(2)).unwrap_or(spec.gap)
+}
+
 /// A cycle within the ranges, in runs of equal fields so that its file leaves some out.
 pub fn cycle_in_range(random: &mut Random, spec: &Spec, count: usize) -> Vec<Pair> {
     let change = random.pick(&[1, 2, 5]);
@@ -152,7 +200,8 @@ pub fn cycle_in_range(random: &mut Random, spec: &Spec, count: usize) -> Vec<Pai
     (0..count)
         .map(|i| {
             if i == 0 || random.once_in(change) {
-                pair.gap = random.between(spec.gap.0, spec.gap.1) as u16;
+                let (least, most) = range_of_gaps(random, spec);
+                pair.gap = random.between(least, most) as u16;
             }
             if i == 0 || random.once_in(change) {
                 pair.size = random.between(spec.size.0, spec.size.1) as u16;
@@ -215,7 +264,10 @@ fn spoil(random: &mut Random, spec: &Spec, pairs: &mut Vec<Pair>) {
             let over = random.pick(&[513, 514, 600, 1_024]);
             *pairs = pairs.iter().copied().cycle().take(over).collect();
         }
-        2 | 3 => pairs[at].gap = outside(random, spec.gap),
+        2 | 3 => {
+            let range = range_of_gaps(random, spec);
+            pairs[at].gap = outside(random, range);
+        }
         _ => pairs[at].size = outside(random, spec.size),
     }
 }
@@ -230,8 +282,7 @@ pub fn any_pairs(random: &mut Random) -> Vec<Pair> {
         _ => count(random),
     };
     let range = random.pick(&[(0, 1), (0, 3), (254, 258), (0, 65_535)]);
-    let spec = Spec { size: range, gap: range, supply: None, demand: None, duration: None };
-    cycle_in_range(random, &spec, count)
+    cycle_in_range(random, &no_rates(range, range), count)
 }
 
 /// A file of any pairs. A list that has no file gets one whose count stands for too many.

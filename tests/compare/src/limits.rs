@@ -1,7 +1,7 @@
-//! The limits of document 01, each reached and each passed by one. Every answer is worked out by hand from the document, and
-//! asked of the library and of the reference.
+//! The limits of document 01, and of the second range of document 02, Req 06, each reached and each passed by one. Every answer is
+//! worked out by hand from the documents, and asked of the library and of the reference.
 
-use crate::checks::{self, both_rates, demand_only, even, no_rates, supply_only, well, Checks};
+use crate::checks::{self, both_rates, demand_only, even, no_rates, supply_only, well, with_second, Checks};
 use crate::group::Runner;
 use reference::{spec, Spec};
 
@@ -24,10 +24,13 @@ fn file(map: u8, numbers: &[u16]) -> Vec<u8> {
     file
 }
 
-/// Ten numbers that are accepted: dmin dmax, smin smax, B R, L P, Tmin Tmax.
-const ALL_TEN: [u16; 10] = [1, 1_000, 1, 20_160, 20_000, 20_160, 20_000, 20_160, 20_160, 60_000];
+/// Twelve numbers that are accepted: dmin dmax, smin smax, B R, L P, Tmin Tmax, and the bounds of the second range of gaps.
+const ALL_TWELVE: [u16; 12] = [1, 1_000, 1, 20_158, 20_000, 20_160, 20_000, 20_160, 20_160, 60_000, 20_159, 20_160];
 
-const TOPS: [(&str, u16); 10] = [
+/// The map of the twelve numbers, and how many of them it calls for; and of those without the second range.
+const ALL_OR_TEN: [(u8, usize); 2] = [(0x3F, 12), (0x1F, 10)];
+
+const TOPS: [(&str, u16); 12] = [
     ("dmin", 1_000),
     ("dmax", 1_000),
     ("smin", 20_160),
@@ -38,11 +41,16 @@ const TOPS: [(&str, u16); 10] = [
     ("P", 20_160),
     ("Tmin", 60_000),
     ("Tmax", 60_000),
+    ("lower bound of the second range", 20_160),
+    ("upper bound of the second range", 20_160),
 ];
 
-/// The specification is consistent, has this even plan (gap, k, total), and passes a cycle of this pair (gap, size).
+/// The specification is consistent or has two ranges, has this even plan (gap, k, total), and passes a cycle of this pair (gap, size).
 fn accepted(checks: &mut Checks, name: &str, spec: &Spec, even: [u64; 3], pair: (u16, u16)) {
-    checks.consistency(name, spec, None);
+    match spec.second {
+        Some(_) => checks.two_ranges(name, spec),
+        None => checks.consistency(name, spec, None),
+    }
     checks.even(name, spec, Ok(even));
     checks.cycle(name, spec, &[pair], 0);
 }
@@ -70,21 +78,38 @@ fn numbers(checks: &mut Checks) {
         ("Tmin 60,000", lasting(demand_only((1, 1), (1, 1), (1, 1)), 60_000, 60_000), [1, 1, 1], (1, 1)),
         ("Tmax 1", lasting(demand_only((1, 1), (1, 1), (1, 1)), 1, 1), [1, 1, 1], (1, 1)),
         ("Tmax 60,000", lasting(no_rates((1, 1), (1, 1)), 1, 60_000), [1, 1, 1], (1, 1)),
+        // No second range starts at 1: it starts above smax.
+        ("second range from 2", with_second(&no_rates((1, 1), (1, 1)), (2, 20_160)), [20_160, 1, 1], (2, 1)),
+        ("second range from 20,160", with_second(&no_rates((1, 1), (1, 1)), (20_160, 20_160)), [20_160, 1, 1], (20_160, 1)),
+        ("second range to 2", with_second(&no_rates((1, 1), (1, 1)), (2, 2)), [2, 1, 1], (2, 1)),
+        ("second range to 20,160", with_second(&no_rates((1, 1), (1, 20_159)), (20_160, 20_160)), [20_160, 1, 1], (20_159, 1)),
     ];
     for (name, spec, even, pair) in rows {
         accepted(checks, name, &spec, even, pair);
     }
     // 20 reports of 1,000 records, 1,008 minutes apart, are just enough and just not too many.
-    let all_ten = lasting(both_rates((1, 1_000), (1, 20_160), (20_000, 20_160), (20_000, 20_160)), 20_160, 60_000);
-    checks.holds("reference, the file of all ten numbers", spec::write(&all_ten) == file(0x1F, &ALL_TEN));
-    accepted(checks, "all ten numbers", &all_ten, [1_008, 20, 20_000], (1_008, 1_000));
+    let ten = lasting(both_rates((1, 1_000), (1, 20_158), (20_000, 20_160), (20_000, 20_160)), 20_160, 60_000);
+    let all_twelve = with_second(&ten, (20_159, 20_160));
+    for (spec, (map, count)) in [&all_twelve, &ten].into_iter().zip(ALL_OR_TEN) {
+        checks.holds(format!("reference, the file of {count} numbers"), spec::write(spec) == file(map, &ALL_TWELVE[..count]));
+        accepted(checks, &format!("{count} numbers"), spec, [1_008, 20, 20_000], (1_008, 1_000));
+    }
     // A lower bound past its top is above its upper bound too, and an upper bound of 0 below its lower one: 3 comes before 4.
     for (at, (name, top)) in TOPS.into_iter().enumerate() {
         for value in [0, top + 1, 65_535] {
-            let mut numbers = ALL_TEN;
-            numbers[at] = value;
-            checks.refused(&format!("{name} {value}"), &file(0x1F, &numbers), 3);
+            refused_with(checks, &format!("{name} {value}"), &[(at, value)], 3);
         }
+    }
+}
+
+/// The twelve numbers with these changes are refused; the ten without the second range too, where all of the changes are theirs.
+fn refused_with(checks: &mut Checks, name: &str, changes: &[(usize, u16)], wanted: u32) {
+    let mut numbers = ALL_TWELVE;
+    for &(at, value) in changes {
+        numbers[at] = value;
+    }
+    for (map, count) in ALL_OR_TEN.into_iter().filter(|&(_, count)| changes.iter().all(|&(at, _)| at < count)) {
+        checks.refused(&format!("{name}, {count} numbers"), &file(map, &numbers[..count]), wanted);
     }
 }
 
@@ -93,6 +118,7 @@ fn order(checks: &mut Checks) {
         ("size 500 to 500", no_rates((500, 500), (1, 20_160)), [20_160, 1, 500], (1, 500)),
         ("gap 5 to 5", no_rates((1, 1_000), (5, 5)), [5, 1, 1], (5, 1_000)),
         ("duration 30,000 to 30,000", lasting(no_rates((1, 1_000), (1, 5)), 30_000, 30_000), [5, 1, 1], (1, 1)),
+        ("second range 9 to 9", with_second(&no_rates((1, 1_000), (1, 5)), (9, 9)), [9, 1, 1], (9, 1)),
         // The numbers of a rate have no order.
         ("B above R, L above P", both_rates((10, 10), (1, 1), (10, 1), (10, 1)), [1, 1, 10], (1, 10)),
         ("B below R, L below P", both_rates((1, 1), (5, 5), (1, 5), (1, 5)), [5, 1, 1], (5, 1)),
@@ -100,8 +126,8 @@ fn order(checks: &mut Checks) {
     for (name, spec, even, pair) in equal {
         accepted(checks, name, &spec, even, pair);
     }
-    // Which numbers of `ALL_TEN` are changed to what, and the answer.
-    let changes: [(&str, &[(usize, u16)], u32); 13] = [
+    // Which numbers of `ALL_TWELVE` are changed to what, and the answer.
+    let rows: [(&str, &[(usize, u16)], u32); 19] = [
         ("size 2 to 1", &[(0, 2), (1, 1)], 4),
         ("size 501 to 500", &[(0, 501), (1, 500)], 4),
         ("size 1,000 to 999", &[(0, 1_000), (1, 999)], 4),
@@ -111,39 +137,53 @@ fn order(checks: &mut Checks) {
         ("duration 2 to 1", &[(8, 2), (9, 1)], 4),
         ("duration 30,001 to 30,000", &[(8, 30_001), (9, 30_000)], 4),
         ("duration 60,000 to 59,999", &[(8, 60_000), (9, 59_999)], 4),
+        ("second range 20,160 to 20,159", &[(10, 20_160), (11, 20_159)], 4),
+        ("second range 10 to 9, above smax", &[(3, 5), (10, 10), (11, 9)], 4),
+        ("second range 20,159 to 1", &[(11, 1)], 4),
         ("size, gap and duration", &[(0, 501), (1, 500), (2, 6), (3, 5), (8, 30_001), (9, 30_000)], 4),
         ("size 501 to 500, Tmax above its top", &[(0, 501), (1, 500), (9, 60_001)], 3),
         ("gap 6 to 5, L above its top", &[(2, 6), (3, 5), (6, 20_001)], 3),
         ("duration 30,001 to 30,000, dmin 0", &[(0, 0), (8, 30_001), (9, 30_000)], 3),
+        ("size 501 to 500, upper bound of the second range above its top", &[(0, 501), (1, 500), (11, 20_161)], 3),
+        ("second range 20,160 to 20,159, dmin 0", &[(0, 0), (10, 20_160), (11, 20_159)], 3),
+        ("second range 20,160 to 20,159, Tmax above its top", &[(9, 60_001), (10, 20_160), (11, 20_159)], 3),
     ];
-    for (name, changed, wanted) in changes {
-        let mut numbers = ALL_TEN;
-        for &(at, value) in changed {
-            numbers[at] = value;
-        }
-        checks.refused(name, &file(0x1F, &numbers), wanted);
+    for (name, changes, wanted) in rows {
+        refused_with(checks, name, changes, wanted);
     }
 }
 
+/// The longest length that is tried with every map: two bytes more than any file has.
+const LONGEST: usize = 27;
+
 fn maps(checks: &mut Checks) {
-    let (size, gap, supply, demand, duration) = ((2, 3), (5, 5), (15, 26), (10, 20), (19, 60_000));
-    // The bit map, the length that it calls for, and what tells the pairs apart: gap, k and total of the even plan; the condition
-    // that fails, as P is above Tmin; what six reports of 3 and what four reports of 2 get.
+    let (size, gap, supply, demand, duration, second) = ((2, 3), (5, 5), (15, 26), (10, 20), (19, 60_000), (7, 8));
+    // The bit map, the length that it calls for, and what tells the pairs apart: gap, k and total of the even plan; what consistency
+    // answers, 7 where P is above Tmin, or 25; what six reports of 3 get, four reports of 2, and reports of 3 at gap 8.
     let rows = [
-        (0x03, 9, [5, 1, 2], None, 0, 0),
-        (0x07, 13, [5, 1, 2], None, 15, 0),
-        (0x0B, 13, [5, 4, 10], None, 0, 16),
-        (0x0F, 17, [5, 4, 10], None, 15, 16),
-        (0x13, 13, [5, 1, 2], None, 0, 0),
-        (0x17, 17, [5, 1, 2], None, 15, 0),
-        (0x1B, 17, [5, 4, 10], Some(3), 0, 16),
-        (0x1F, 21, [5, 4, 10], Some(3), 15, 16),
+        (0x03, 9, [5, 1, 2], 0, 0, 0, 13),
+        (0x07, 13, [5, 1, 2], 0, 15, 0, 13),
+        (0x0B, 13, [5, 4, 10], 0, 0, 16, 13),
+        (0x0F, 17, [5, 4, 10], 0, 15, 16, 13),
+        (0x13, 13, [5, 1, 2], 0, 0, 0, 13),
+        (0x17, 17, [5, 1, 2], 0, 15, 0, 13),
+        (0x1B, 17, [5, 4, 10], 7, 0, 16, 13),
+        (0x1F, 21, [5, 4, 10], 7, 15, 16, 13),
+        (0x23, 13, [8, 1, 2], 25, 0, 0, 0),
+        (0x27, 17, [8, 1, 2], 25, 15, 0, 0),
+        (0x2B, 17, [5, 4, 10], 25, 0, 16, 16),
+        (0x2F, 21, [5, 4, 10], 25, 15, 16, 16),
+        (0x33, 17, [8, 1, 2], 25, 0, 0, 0),
+        (0x37, 21, [8, 1, 2], 25, 15, 0, 0),
+        (0x3B, 21, [5, 4, 10], 25, 0, 16, 16),
+        (0x3F, 25, [5, 4, 10], 25, 15, 16, 16),
     ];
-    for (map, length, even, condition, of_3, of_2) in rows {
+    for (map, length, even, consistency, of_3, of_2, at_8) in rows {
         let name = format!("map {map:#04x}");
         let stands = |bit: u8, pair: (u64, u64)| (map >> bit & 1 == 1).then_some(pair);
-        let spec = Spec { size, gap, supply: stands(2, supply), demand: stands(3, demand), duration: stands(4, duration) };
-        let numbers: Vec<u16> = [Some(size), Some(gap), spec.supply, spec.demand, spec.duration]
+        let (supply, demand) = (stands(2, supply), stands(3, demand));
+        let spec = Spec { size, gap, supply, demand, duration: stands(4, duration), second: stands(5, second) };
+        let numbers: Vec<u16> = [Some(size), Some(gap), supply, demand, spec.duration, spec.second]
             .into_iter()
             .flatten()
             .flat_map(|(first, second)| [first as u16, second as u16])
@@ -151,21 +191,30 @@ fn maps(checks: &mut Checks) {
         let bytes = file(map, &numbers);
         checks.holds(format!("reference, the file of {name}"), spec::write(&spec) == bytes && bytes.len() == length);
         checks.even(&name, &spec, Ok(even));
-        checks.consistency(&name, &spec, condition);
+        match consistency {
+            25 => checks.two_ranges(&name, &spec),
+            7 => checks.consistency(&name, &spec, Some(3)),
+            _ => checks.consistency(&name, &spec, None),
+        }
         checks.cycle(&format!("{name}, size 3"), &spec, &[(5, 3)], of_3);
         checks.cycle(&format!("{name}, size 2"), &spec, &[(5, 2)], of_2);
-        let longest = [&bytes[..], &[0; 24]].concat();
-        for other in (1..24).filter(|&other| other != length) {
+        checks.cycle(&format!("{name}, gap 8"), &spec, &[(8, 3)], at_8);
+        let longest = [&bytes[..], &[0; LONGEST]].concat();
+        for other in (1..=LONGEST).filter(|&other| other != length) {
             checks.refused(&format!("{name} with {other} bytes"), &longest[..other], 2);
         }
     }
     checks.refused("no byte", &[], 1);
+    // Bit 6 or 7 stands, or bit 0 or 1 does not.
+    let mut wrong_maps = 0;
     for map in (0..=255).filter(|map| rows.iter().all(|row| row.0 != *map)) {
-        let bytes = file(map, &ALL_TEN);
-        for length in [1, 9, 13, 17, 21] {
+        wrong_maps += 1;
+        let bytes = [file(map, &ALL_TWELVE), vec![0; 2]].concat();
+        for length in 1..=LONGEST {
             checks.refused(&format!("map {map:#04x} with {length} bytes"), &bytes[..length], 1);
         }
     }
+    checks.holds("240 wrong maps", wrong_maps == 240);
 }
 
 fn plans(checks: &mut Checks) {

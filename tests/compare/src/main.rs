@@ -21,6 +21,7 @@ mod moments;
 mod offers;
 mod program;
 mod random;
+mod ranges;
 mod ring;
 mod rounds;
 mod samples;
@@ -44,6 +45,7 @@ fn main() {
             samples::all(&mut runner);
             limits::all(&mut runner);
             edges::all(&mut runner);
+            ranges::all(&mut runner);
             rounds::all(&mut runner);
             calls::reference_itself(&mut runner);
             exhaustive::all(&mut runner);

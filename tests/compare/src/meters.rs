@@ -1,6 +1,7 @@
 //! Meters: making them, lists of offers against the plain machine and the ring, and offers to meters of any contents.
 
 use crate::calls::hex;
+use crate::checks::supply_only;
 use crate::generate;
 use crate::group::{same, Counts, Met, Runner, Verdict, RUNS};
 use crate::library::{Library, Outcome};
@@ -11,7 +12,7 @@ use reference::meter::{fullest, Machine, Report};
 use reference::{spec, Spec};
 
 pub fn all(runner: &mut Runner) {
-    runner.random("making a meter", RUNS, &[0, 1, 2, 3, 4], making_case);
+    runner.random("making a meter", RUNS, &[0, 1, 2, 3, 4, 24], making_case);
     runner.random("lists of offers", RUNS / 5, &[0, 13, 14, 15], near_case);
     runner.random("lists of offers, no supply rate", RUNS / 20, &[0, 13, 14], no_supply_case);
     runner.random("lists of offers, up to minute 2^32 − 1", RUNS / 20, &[0, 13, 14, 15], last_minutes_case);
@@ -123,7 +124,7 @@ fn crowded_case(random: &mut Random, library: &mut Library) -> Result<Counts, St
         random.pick(&[(1, 20_000), (1, 1_025), (1, 1_024), (1, 1_023), (2, 20_000), (2, 1_540), (19, 20_000), (39, 20_000)]);
     let any_window = random.between(1_024, 20_160);
     let r = random.pick(&[20_160, any_window, 1_024, 1_025, 1_026]);
-    let spec = Spec { size: (1, dmax), gap: (1, 20_160), supply: Some((b, r)), demand: None, duration: None };
+    let spec = supply_only((1, dmax), (1, 20_160), (b, r));
     let start = random.pick(&[0, 1_000_000, LAST - 2_500]);
     let course = Course { start, stride: 1, strays: 20, together: random.pick(&[1_024, 1_024, 0]) };
     list(random, library, &spec, 2_400, course)
@@ -132,7 +133,7 @@ fn crowded_case(random: &mut Random, library: &mut Library) -> Result<Counts, St
 /// Any bytes at all, or a specification file that is sound, at the limits or damaged; over a meter of any bytes.
 fn making_case(random: &mut Random, library: &mut Library) -> Verdict {
     let file = match random.below(8) {
-        0 => (0..random.below(24)).map(|_| random.next() as u8).collect(),
+        0 => (0..random.below(28)).map(|_| random.next() as u8).collect(),
         _ => generate::spec_file(random),
     };
     let former = offers::any_meter(random);

@@ -3,6 +3,7 @@
 //! maxeltu_report gives.
 
 use crate::calls::{expected, plan_of, some_plan};
+use crate::checks::HELD;
 use crate::group::{same, Counts, Met, Runner, Verdict, RUNS};
 use crate::library::Library;
 use crate::random::Random;
@@ -225,9 +226,6 @@ const COUNTS: u64 = 7;
 const PERIODS: u64 = 31;
 const TOTALS: u64 = 15;
 const SMALL_PLANS: u64 = 3 * COUNTS * PERIODS * TOTALS;
-
-/// What lent places hold before each call on a small plan.
-const HELD: u32 = 0xA5A5_A5A5;
 
 /// Three periods of a proper plan, and a minute more.
 fn small_case(mut number: u64, library: &mut Library) -> Result<Counts, String> {

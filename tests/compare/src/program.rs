@@ -13,6 +13,9 @@ use std::process::{Command, Stdio};
 pub fn all(runner: &mut Runner, program: &Path) {
     let sample: &[u8] = &[0x0F, 0, 2, 0, 3, 0, 5, 0, 5, 0, 0x0F, 0, 0x1A, 0, 0x0A, 0, 0x14];
     let printed = "gap 5 cycle 4 total 10\n0 0 3\n1 5 2\n2 10 3\n3 15 2\n";
+    // B with 15 and L 5, a duration and a second range. At gap 8 two reports in any 20 minutes are enough.
+    let longest: &[u8] = &[0x3F, 0, 2, 0, 3, 0, 5, 0, 5, 0, 15, 0, 26, 0, 5, 0, 20, 0, 20, 0, 60, 0, 7, 0, 8];
+    let in_second = "gap 8 cycle 2 total 5\n0 0 3\n1 8 2\n";
     let mut checks = vec![];
     for (name, file, wanted) in [
         ("B with 15", sample.to_vec(), printed),
@@ -23,12 +26,26 @@ pub fn all(runner: &mut Runner, program: &Path) {
         ("a byte short", sample[..16].to_vec(), "refused 2\n"),
         ("B with 0", [&sample[..9], &[0, 0], &sample[11..]].concat(), "refused 3\n"),
         ("sizes 4 to 3", [&sample[..1], &[0, 4], &sample[3..]].concat(), "refused 4\n"),
+        ("a second range", longest.to_vec(), in_second),
+        ("a second range that touches the first", [&longest[..21], &[0, 6, 0, 8]].concat(), in_second),
+        ("a second range, L 10", [&longest[..13], &[0, 10], &longest[15..]].concat(), printed),
+        ("a second range, L 10 and B 14", [&longest[..9], &[0, 14, 0, 26, 0, 10], &longest[15..]].concat(), "refused 10\n"),
+        ("a second range from smax", [&longest[..21], &[0, 5, 0, 8]].concat(), "refused 24\n"),
+        ("a second range 5 to 4", [&longest[..21], &[0, 5, 0, 4]].concat(), "refused 4\n"),
+        ("a second range from 0", [&longest[..21], &[0, 0, 0, 8]].concat(), "refused 3\n"),
+        ("a second range to 20,161", [&longest[..21], &[0, 5, 0x4E, 0xC1]].concat(), "refused 3\n"),
+        ("24 bytes of the longest file", longest[..24].to_vec(), "refused 2\n"),
+        ("the longest file and a byte", [longest, &[0]].concat(), "refused 2\n"),
+        ("the longest file and 100,000 bytes", [longest, &[0; 100_000]].concat(), "refused 2\n"),
+        ("a map that calls for a second range", [&[0x2F], &sample[1..]].concat(), "refused 2\n"),
+        ("bit 6", [&[0x7F], &longest[1..]].concat(), "refused 1\n"),
+        ("bit 7", [&[0xBF], &longest[1..]].concat(), "refused 1\n"),
     ] {
         let got = prints(program, &file);
         checks.push((format!("{name}: {got:?}"), got.as_deref() == Ok(wanted)));
     }
     runner.fixed("evenplan on samples", &checks);
-    runner.random("evenplan on random specifications", RUNS / 100, &[0, 1, 2, 3, 4, 10], |random, _| {
+    runner.random("evenplan on random specifications", RUNS / 100, &[0, 1, 2, 3, 4, 10, 24], |random, _| {
         let file = input(random);
         let (answer, wanted) = text(&file);
         same(answer, prints(program, &file)?, wanted, || format!("{file:02x?}"))

@@ -2,7 +2,7 @@
 //! rounds of a stretch could count one too many or too few. What the fullest and the thinnest stretch hold is summed here, report
 //! by report over the endless repetition, and B and L lie there, one below and one above. Nothing here is left to chance.
 
-use crate::checks::pairs_of;
+use crate::checks::{no_rates, pairs_of};
 use crate::group::{same, Runner, Verdict};
 use crate::library::Library;
 use reference::{cycle, file, spec, verdict, Pair, Spec};
@@ -132,8 +132,8 @@ fn case_of(pairs: &[Pair], supply: Option<Rate>, demand: Option<Rate>) -> Case<'
         (_, Some(Rate { kept: false, .. })) => 16,
         _ => 0,
     };
-    let spec =
-        Spec { size: (1, 1_000), gap: (1, 20_160), supply: supply.map(numbers), demand: demand.map(numbers), duration: None };
+    let (supply, demand) = (supply.map(numbers), demand.map(numbers));
+    let spec = Spec { supply, demand, ..no_rates((1, 1_000), (1, 20_160)) };
     Case { pairs, spec, answer }
 }
 

@@ -1,10 +1,10 @@
 //! The samples of document 01, starred or not, through the library and through the reference, and the files in samples/. The sizes of
-//! even plans are those of document 02, Req 02, and the meter is that of Req 03.
+//! even plans are those of document 02, Req 02, the meter is that of Req 03, and the van of two shifts that of Req 06.
 
-use crate::checks::{self, both_rates, Checks, Offer};
+use crate::checks::{self, both_rates, pairs_of, with_second, Checks, Offer};
 use crate::group::Runner;
 use reference::feasibility::Failure::Refused;
-use reference::{cycle, even, schedule, spec, Pair, Plan, Spec};
+use reference::{cycle, even, file, schedule, spec, Pair, Plan, Spec};
 
 /// The first reports of a plan, by minute and size.
 fn reports(checks: &mut Checks, name: &str, plan: Plan, wanted: &[(u64, u64)]) {
@@ -19,6 +19,7 @@ pub fn all(runner: &mut Runner) {
         sample_b(checks);
         samples_c_d_e(checks);
         sample_f(checks);
+        two_shifts(checks);
     });
     checks::group(runner, "samples of plans, from a minute back to the report", minutes);
     checks::group(runner, "samples of meters", meters);
@@ -75,8 +76,8 @@ fn minutes(checks: &mut Checks) {
 }
 
 fn meters(checks: &mut Checks) {
-    let sound = ["a", "a28", "b", "b14", "b15", "c", "d", "e", "f", "f-no-demand"].map(|name| (name, 0));
-    let refused = [("bad-map", 1), ("empty", 1), ("bad-length", 2), ("bad-limits", 3), ("bad-order", 4)];
+    let sound = ["a", "a28", "b", "b14", "b15", "c", "d", "e", "f", "f-no-demand", "shift", "touching"].map(|name| (name, 0));
+    let refused = [("bad-map", 1), ("empty", 1), ("bad-length", 2), ("bad-limits", 3), ("bad-order", 4), ("bad-ranges", 24)];
     for (name, wanted) in sound.into_iter().chain(refused) {
         let name = format!("{name}.spec");
         checks.made(&name, &std::fs::read(checks::sample(&name)).expect(&name), wanted);
@@ -173,4 +174,35 @@ fn sample_f(checks: &mut Checks) {
     checks.cycle("F without demand, its only schedule", &no_demand, &[(4, 5)], 15);
     let only = [Pair { gap: 4, size: 5 }];
     checks.holds("reference, F's only schedule breaks a rule", !schedule::obeys(&no_demand, &cycle::Cycle(&only)));
+}
+
+/// "Two-shift vans report every 5 to 15 minutes or every 60 to 90, and never in between."
+fn two_shifts(checks: &mut Checks) {
+    let one_shift = both_rates((1, 10), (5, 15), (22, 60), (8, 90));
+    let shift = with_second(&one_shift, (60, 90));
+    let bytes = [0x2F, 0, 1, 0, 10, 0, 5, 0, 15, 0, 22, 0, 60, 0, 8, 0, 90, 0, 60, 0, 90];
+    checks.file("shift.spec", &bytes);
+    checks.file("shift.spec", &spec::write(&shift));
+    checks.two_ranges("two shifts", &shift);
+    checks.even("two shifts", &shift, Ok([90, 1, 8]));
+    checks.even("one shift", &one_shift, Ok([15, 6, 8]));
+    checks.meter("two shifts", &shift, [1, 10, 5, 22, 60]);
+    let good = [(15, 5), (15, 5), (5, 4), (90, 8), (60, 8)];
+    let between = [(15, 8), (30, 4), (90, 8)];
+    for (name, pairs) in [("shift-good.cycle", &good[..]), ("shift-between.cycle", &between)] {
+        checks.file(name, &file::write(&pairs_of(pairs), usize::MAX).expect(name));
+    }
+    let touching = with_second(&one_shift, (16, 90));
+    checks.file("touching.spec", &spec::write(&touching));
+    checks.two_ranges("ranges that touch", &touching);
+    checks.even("ranges that touch", &touching, Ok([90, 1, 8]));
+    for (name, spec, good_gets, between_gets) in
+        [("two shifts", &shift, 0, 13), ("ranges that touch", &touching, 0, 0), ("one shift", &one_shift, 13, 13)]
+    {
+        checks.cycle(&format!("{name}, shift-good.cycle"), spec, &good, good_gets);
+        checks.cycle(&format!("{name}, shift-between.cycle"), spec, &between, between_gets);
+    }
+    let too_low = spec::write(&with_second(&one_shift, (15, 90)));
+    checks.file("bad-ranges.spec", &too_low);
+    checks.refused("a second range from smax", &too_low, 24);
 }

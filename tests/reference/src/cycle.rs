@@ -1,4 +1,4 @@
-//! Document 01, "Cycles" and "Checking a cycle".
+//! Document 01, "Cycles" and "Checking a cycle"; document 02, Req 06: "The check of cycles uses both" ranges.
 
 use crate::schedule::{least_and_most, Schedule, LAID_OUT};
 use crate::{Refusal, Spec};
@@ -36,7 +36,7 @@ pub fn check_laid_out(spec: &Spec, pairs: &[Pair], laid_out: u64) -> Refusal {
     if pairs.is_empty() || pairs.len() > 512 {
         return 12;
     }
-    if pairs.iter().any(|p| u64::from(p.gap) < spec.gap.0 || u64::from(p.gap) > spec.gap.1) {
+    if pairs.iter().any(|p| !spec.allows_gap(p.gap.into())) {
         return 13;
     }
     if pairs.iter().any(|p| u64::from(p.size) < spec.size.0 || u64::from(p.size) > spec.size.1) {

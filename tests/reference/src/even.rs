@@ -1,11 +1,12 @@
-//! Document 01, "The even plan": "the largest s in the range at which an endless list of sizes obeys the rules".
+//! Document 01, "The even plan": "the largest s in the range at which an endless list of sizes obeys the rules"; document 02, Req 06:
+//! it "looks through both, largest gap first".
 
 use crate::{Kind, Plan, Refusal, Spec};
 use std::collections::HashMap;
 
-/// The even plan, given the judgement whether an endless list of sizes exists at a gap. Every gap is tried, the largest first.
+/// The even plan, given the judgement whether an endless list of sizes exists at a gap. Every gap of either range is tried.
 pub fn even_plan(spec: &Spec, works: impl Fn(&Spec, u64) -> bool) -> Result<Plan, Refusal> {
-    let gap = (spec.gap.0..=spec.gap.1).rev().find(|&gap| works(spec, gap)).ok_or(10u32)?;
+    let gap = spec.gaps().find(|&gap| works(spec, gap)).ok_or(10u32)?;
     Ok(match spec.demand {
         Some((l, p)) => {
             let m = p / gap;

@@ -1,11 +1,36 @@
-//! Document 01: minimum demand, maximum supply, consistency, the test.
+//! Document 01: minimum demand, maximum supply, consistency, the test; document 02, Req 06: none of them takes a second range of gaps.
 
 use crate::schedule::{least_and_most, Schedule};
 use crate::{Kind, Plan, Refusal, Spec};
 use std::cmp::Reverse;
 
+/// "25 when consistency, a k-report schedule or the test is given a specification with a second range, next after 24"
+fn one_range(spec: &Spec) -> Result<(), Refusal> {
+    if spec.second.is_some() {
+        Err(25)
+    } else {
+        Ok(())
+    }
+}
+
+/// Why a specification is not consistent, or why the test passes no plan. The inconsistent case carries the condition that failed
+/// first.
+#[derive(Clone, Copy, Debug, PartialEq, Eq)]
+pub enum Failure {
+    Inconsistent(u32),
+    Refused(Refusal),
+}
+
+pub fn consistency(spec: &Spec) -> Result<(), Failure> {
+    one_range(spec).map_err(Failure::Refused)?;
+    match failing_condition(spec) {
+        Some(condition) => Err(Failure::Inconsistent(condition)),
+        None => Ok(()),
+    }
+}
+
 /// The first condition that fails. "A part that names an absent value is not applied."
-pub fn failing_condition(spec: &Spec) -> Option<u32> {
+fn failing_condition(spec: &Spec) -> Option<u32> {
     let (dmin, dmax) = spec.size;
     let (smin, smax) = spec.gap;
     let b = spec.supply.map(|(b, _)| b);
@@ -25,6 +50,7 @@ pub fn failing_condition(spec: &Spec) -> Option<u32> {
 
 /// "It exists when k × smin ≤ P and k × dmax ≥ L." With its required supply: "what minutes 0 to R − 1 hold".
 pub fn min_demand(spec: &Spec, k: u64) -> Result<(Plan, u64), Refusal> {
+    one_range(spec)?;
     let (Some((_, r)), Some((l, p))) = (spec.supply, spec.demand) else { return Err(5) };
     if !(k * spec.gap.0 <= p && k * spec.size.1 >= l) {
         return Err(6);
@@ -49,6 +75,7 @@ fn held_before(schedule: &impl Schedule, end: u64) -> u64 {
 /// "It exists when k × smax ≥ R and k × dmin ≤ B." With its available supply: "the least that any stretch of P minutes holds".
 /// Up to `laid_out` minutes every start is tried, beyond that every report.
 pub fn max_supply(spec: &Spec, k: u64, laid_out: u64) -> Result<(Plan, u64), Refusal> {
+    one_range(spec)?;
     let (Some((b, r)), Some((_, p))) = (spec.supply, spec.demand) else { return Err(5) };
     if !(k * spec.gap.1 >= r && k * spec.size.0 <= b) {
         return Err(6);
@@ -59,19 +86,11 @@ pub fn max_supply(spec: &Spec, k: u64, laid_out: u64) -> Result<(Plan, u64), Ref
     Ok((plan, least_and_most(&plan, p, laid_out).0))
 }
 
-/// Why the test passes no plan. The inconsistent case carries the condition that failed first.
-#[derive(Clone, Copy, Debug, PartialEq, Eq)]
-pub enum Failure {
-    Inconsistent(u32),
-    Refused(Refusal),
-}
-
 /// The test. Every k is tried that the inequalities leave: a k above 20,160 has k × smin > P and k × dmin > B.
 pub fn test(spec: &Spec, laid_out: u64) -> Result<(Plan, u64), Failure> {
+    one_range(spec).map_err(Failure::Refused)?;
     let (Some((b, r)), Some((l, p))) = (spec.supply, spec.demand) else { return Err(Failure::Refused(5)) };
-    if let Some(condition) = failing_condition(spec) {
-        return Err(Failure::Inconsistent(condition));
-    }
+    consistency(spec)?;
     let every_k = 0..=20_161;
     // `min_by_key` takes the first of equals, so the smaller k.
     let taken = if r >= p {

@@ -32,6 +32,7 @@ impl Machine<'_> {
 
     fn number(&self, offered: Report) -> Refusal {
         let (dmin, dmax) = self.spec.size;
+        // Req 06: "The meter keeps the first range's smin."
         let smin = self.spec.gap.0;
         if self.accepted.last().is_some_and(|last| offered.minute < last.minute + smin) {
             return 13;

@@ -116,7 +116,7 @@ pub fn least_and_most(schedule: &impl Schedule, n: u64, laid_out: u64) -> (u64, 
 pub fn obeys(spec: &Spec, schedule: &impl Schedule) -> bool {
     let round = 0..schedule.reports_in_round();
     round.clone().all(|i| spec.size.0 <= schedule.size(i) && schedule.size(i) <= spec.size.1)
-        && round.clone().all(|i| spec.gap.0 <= schedule.gap(i) && schedule.gap(i) <= spec.gap.1)
+        && round.clone().all(|i| spec.allows_gap(schedule.gap(i)))
         && spec.supply.map_or(true, |(b, r)| least_and_most(schedule, r, LAID_OUT).1 <= b)
         && spec.demand.map_or(true, |(l, p)| least_and_most(schedule, p, LAID_OUT).0 >= l)
 }
