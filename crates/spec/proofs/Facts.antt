@@ -36,6 +36,29 @@ last-fails true true false = (λ e. (refl, refl, refl), λ h. refl)
 last-fails true false d = (λ e. absurd (omega arith), λ h. absurd (let c = h .1 in let z : _≡_ {A = ℕ} 0 1 = cc in omega arith))
 last-fails false c d = (λ e. absurd (omega arith), λ h. absurd (let b = h .0 in let z : _≡_ {A = ℕ} 0 1 = cc in omega arith))
 
+-- 24, in numbers: ranges that touch do not get it
+starts-low : (x : Range) (top : ℕ) → (startsAbove x top ≡ false) ↔ ((lo : ℕ) × (hi : ℕ) × (x ≡ RangeOf lo hi) × (lo ≤ top))
+unfolding startsAbove
+starts-low NoRange top = (
+  λ e. absurd (let z : _≡_ {A = ℕ} 0 1 = cc in omega arith),
+  λ h. absurd (let e : NoRange ≡ RangeOf (h .0) (h .1) = h .2 in let z : _≡_ {A = ℕ} 0 1 = cc in omega arith),
+)
+starts-low (RangeOf lo hi) top = (
+  λ e. (lo, hi, refl, ltb-false top lo e),
+  λ h.
+      let e : RangeOf lo hi ≡ RangeOf (h .0) (h .1) = h .2 in
+      let low : lo ≡ h .0 = cc in
+      le-ltb top lo (omega (arith, h .3)),
+)
+
+pub number-24 : (s : Spec)
+    → (specNumber s ≡ 24) ↔ ((limits s ≡ true) × (order s ≡ true) × ((lo : ℕ) × (hi : ℕ) × (s .second ≡ RangeOf lo hi) × (lo ≤ s .smax)))
+unfolding specNumber
+number-24 s =
+    let last = last-fails (limits s) (order s) (startsAbove (s .second) (s .smax)) in
+    let low = starts-low (s .second) (s .smax) in
+    (λ e. let h = last .0 e in (h .0, h .1, low .0 (h .2)), λ h. last .1 (h .0, h .1, low .1 (h .2)))
+
 pub record Facts (s : Spec) : Type 0 where
   pub size-low : 1 ≤ s .dmin
   pub sizes : s .dmin ≤ s .dmax
@@ -101,29 +124,6 @@ pub first-range : (s : Spec) → IsAccepted s → rangeLimits 20160 (RangeOf (s 
 first-range s a =
     let f = facts s a in
     range-limits-iff 20160 (s .smin) (s .smax) .1 (f .gap-low, omega (arith, f .gaps, f .gap-high), omega (arith, f .gap-low, f .gaps), f .gap-high)
-
--- 24, in numbers: ranges that touch do not get it
-starts-low : (x : Range) (top : ℕ) → (startsAbove x top ≡ false) ↔ ((lo : ℕ) × (hi : ℕ) × (x ≡ RangeOf lo hi) × (lo ≤ top))
-unfolding startsAbove
-starts-low NoRange top = (
-  λ e. absurd (let z : _≡_ {A = ℕ} 0 1 = cc in omega arith),
-  λ h. absurd (let e : NoRange ≡ RangeOf (h .0) (h .1) = h .2 in let z : _≡_ {A = ℕ} 0 1 = cc in omega arith),
-)
-starts-low (RangeOf lo hi) top = (
-  λ e. (lo, hi, refl, ltb-false top lo e),
-  λ h.
-      let e : RangeOf lo hi ≡ RangeOf (h .0) (h .1) = h .2 in
-      let low : lo ≡ h .0 = cc in
-      le-ltb top lo (omega (arith, h .3)),
-)
-
-pub number-24 : (s : Spec)
-    → (specNumber s ≡ 24) ↔ ((limits s ≡ true) × (order s ≡ true) × ((lo : ℕ) × (hi : ℕ) × (s .second ≡ RangeOf lo hi) × (lo ≤ s .smax)))
-unfolding specNumber
-number-24 s =
-    let last = last-fails (limits s) (order s) (startsAbove (s .second) (s .smax)) in
-    let low = starts-low (s .second) (s .smax) in
-    (λ e. let h = last .0 e in (h .0, h .1, low .0 (h .2)), λ h. last .1 (h .0, h .1, low .1 (h .2)))
 
 pub size-allowed-iff : (s : Spec) (d : ℕ) → (sizeAllowed s d ≡ true) ↔ ((s .dmin ≤ d) × (d ≤ s .dmax))
 unfolding sizeAllowed
