@@ -1,6 +1,7 @@
 -- Document 01, "Consistency (000, Theorem 1; 1 and 2 are the ranges): 3: dmax ≤ B, smax ≤ P, P ≤ Tmin. 4: dmin × ⌊R/smax⌋ ≤ B.
 -- 5: ⌈L/dmax⌉ ≤ ⌊P/smin⌋. 6: B × P ≥ L × R. A part that names an absent value is not applied."; and what it turns down: 3, 4,
--- 24 and 25 (document 02, Req 06), and "7, carrying the first condition that fails". Each part of condition 3 is applied by itself: P ≤ Tmin waits for no supply rate.
+-- 24 and 25 (document 02, Req 06), then "7, carrying the first condition that fails". Each part of condition 3 is applied by itself:
+-- P ≤ Tmin waits for no supply rate.
 use Prim.Native.Nat.{ℕ, _*_, _/_}
 use mathlib.Core.Bool.{Bool, true, cond, _&&_}
 use lib.Dec.{leb}

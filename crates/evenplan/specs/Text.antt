@@ -1,6 +1,7 @@
 -- Document 01, "Samples": what `evenplan` prints. "First line s, k, δ; then for each report of one period its number, minute, size. A
--- refusal prints only the line `refused 10`, with its own number (1 to 4 or 10) in that place." 24 too (document 02, Req 06). Each line that is handed to
--- `write_line` is one of these. That each is written, in order, is tested and not proved: no contract can say what the system writes.
+-- refusal prints only the line `refused 10`, with its own number (1 to 4 or 10) in that place." 24 too (document 02, Req 06).
+-- Each line that is handed to `write_line` is one of these. That each is written, in order, is tested and not proved: no contract can say
+-- what the system writes.
 use Prim.Native.Nat.{ℕ, zero, suc, _+_, _/_, _%_, _≤_}
 use mathlib.Core.Path.{_≡_}
 use mathlib.Core.Bool.{true, false, cond}
