@@ -9,7 +9,7 @@ use Rattle.spec.specs.declared.Rates.{Rates}
 use Rattle.spec.specs.declared.BothRates.{BothRates}
 use Rattle.spec.specs.declared.BothRates.the-variants.{Both, Refused as NoRates}
 use Rattle.spec.specs.Rates.{HasTwoRanges, bothRates, started, ifRates}
-use Rattle.spec.proofs.GoingOn.{tells-25, rates-begin, rate-absent, started-both, started-at}
+use Rattle.spec.proofs.GoingOn.{rates-tell-25, started-both, started-at}
 use Rattle.spec.proofs.KnownRates.{Known, known}
 use Rattle.schedule.specs.Schedules.{stretch}
 use Rattle.plan.specs.declared.Plan.{Plan}
@@ -60,9 +60,8 @@ schedule-started f s q k plan v e x = pick (started s) refl x
     pick (NoRates n) h y = absurd (let z : _≡_ {A = ℕ} 0 1 = cc in omega arith)
 
 -- 25 is given exactly to an accepted specification with a second range, whatever k is
-no-25 : (f : Family) (s : Spec) (k : ℕ) (r : BothRates) → bothRates s ≡ r → ¬ (ifRates r (λ q. scheduled f s q k) Refused ≡ Refused 25)
-no-25 f s k (NoRates n) h x = let z : n ≡ 25 = cc in omega (arith, rate-absent s n h)
-no-25 f s k (Both q) h x = pick (exists f s q k) refl
+no-25 : (f : Family) (s : Spec) (q : Rates) (k : ℕ) → ¬ (scheduled f s q k ≡ Refused 25)
+no-25 f s q k x = pick (exists f s q k) refl
   where
     pick : (b : Bool) → exists f s q k ≡ b → ⊥
     pick true e = let y = scheduled-some f s q k e in let z : _≡_ {A = ℕ} 0 1 = cc in omega arith
@@ -70,9 +69,7 @@ no-25 f s k (Both q) h x = pick (exists f s q k) refl
 
 pub schedule-25 : (f : Family) (s : Spec) (k : ℕ) → (scheduleFor f s k ≡ Refused 25) ↔ HasTwoRanges s
 unfolding scheduleFor
-schedule-25 f s k =
-    rw (rates-begin s (λ q. scheduled f s q k) Refused)
-    (tells-25 s (ifRates (bothRates s) (λ q. scheduled f s q k) Refused) Refused (λ n e. cc) (λ one. no-25 f s k (bothRates s) refl))
+schedule-25 f s k = rates-tell-25 s (λ q. scheduled f s q k) Refused (λ n e. cc) (λ q start. no-25 f s q k)
 
 pub record FoundAt (f : Family) (s : Spec) (q : Rates) (k : ℕ) (plan : Plan) (v : ℕ) : Type 0 where
   pub rates : Known s q

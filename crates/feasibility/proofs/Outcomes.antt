@@ -141,14 +141,14 @@ module _ (s : Spec) (q : Rates) (e : bothRates s ≡ Both q) where
         absurd (let y = x (p .count) in let g = h .schedule in let z : _≡_ {A = ℕ} 0 1 = cc in omega arith)
 
   -- a refusal from 5 to 23 is none of those that come first
-  between : (m : ℕ) → 4 < m → m < 24 → Refused m ≡ Refused (oneRangeNumber s) → ⊥
-  between m h l x = let z : m ≡ oneRangeNumber s = cc in ⊎-elim (λ k. omega arith) (λ k. omega arith) (one-range-few s)
+  not-first : (m : ℕ) → 4 < m → m < 24 → Refused m ≡ Refused (oneRangeNumber s) → ⊥
+  not-first m h l x = let z : m ≡ oneRangeNumber s = cc in ⊎-elim (λ k. omega arith) (λ k. omega arith) (one-range-few s)
 
   no-condition : (m : ℕ) (c : Condition) → Refused m ≡ Inconsistent c → ⊥
   no-condition m c x = let z : _≡_ {A = ℕ} 0 1 = cc in omega arith
 
   pub refused : (m : ℕ) → 4 < m → m < 24 → testOf s ≡ Refused m → (consistencyOf s ≡ Consistent) × (testTaken f q (taken f s q) ≡ Refused m)
-  refused m h l x = tests-taken (Refused m) x (no-condition m) (between m h l)
+  refused m h l x = tests-taken (Refused m) x (no-condition m) (not-first m h l)
 
 -- Condition 5 says that the first number of reports that reaches L is not above the last that fits P.
 pub enough-reports : (s : Spec) (q : Rates) → Known s q → consistencyOf s ≡ Consistent → exists MinimumDemand s q (firstWith MinimumDemand s q) ≡ true

@@ -6,10 +6,11 @@ use mathlib.Core.Logic.{_↔_, ⊎-elim}
 use mathlib.Core.Bool.{true}
 use borrow.Author.Tests.{le-leb}
 use Rattle.spec.specs.declared.Spec.{Spec}
+use Rattle.spec.specs.declared.Rates.{Rates}
 use Rattle.spec.specs.declared.BothRates.{BothRates}
 use Rattle.spec.specs.declared.BothRates.the-variants.{Both, Refused as NoRates}
-use Rattle.spec.specs.Rates.{HasTwoRanges, bothRates, started, ifRates}
-use Rattle.spec.proofs.GoingOn.{HasOneRange, tells-25, rates-begin, rate-absent, started-both, started-at}
+use Rattle.spec.specs.Rates.{HasTwoRanges, started, ifRates}
+use Rattle.spec.proofs.GoingOn.{started-both, rates-tell-25}
 use Rattle.spec.proofs.KnownRates.{known}
 use Rattle.schedule.specs.Rules.{Obeys}
 use Rattle.numbers.proofs.Cases.{lt-cases}
@@ -93,20 +94,15 @@ none-only-below s q e x = ⊎-elim (λ h. h) (λ h. absurd (never h)) (lt-cases 
         omega arith
 
 -- 25 is given exactly to an accepted specification with a second range.
-no-25 : (s : Spec) → HasOneRange s → (r : BothRates) → bothRates s ≡ r → ¬ (ifRates r (λ q. testConsistent (consistencyOf s) s q) Refused ≡ Refused 25)
+no-25 : (s : Spec) (q : Rates) → started s ≡ Both q → (c : Consistency) → consistencyOf s ≡ c → ¬ (testConsistent c s q ≡ Refused 25)
 unfolding testConsistent
-no-25 s one (NoRates n) e x = let z : n ≡ 25 = cc in omega (arith, rate-absent s n e)
-no-25 s one (Both q) e x = pick (consistencyOf s) refl x
-  where
-    pick : (c : Consistency) → consistencyOf s ≡ c → ¬ (testConsistent c s q ≡ Refused 25)
-    pick Consistent h y =
-        let start = started-at s q one e in
-        ⊎-elim (λ z. omega arith) (λ z. omega arith) (refusals-two s q e start 25 (taken (familyOf q) s q) (best-taken s q e start) y)
-    pick (FailsCondition c) h y = let z : _≡_ {A = ℕ} 0 1 = cc in omega arith
-    pick (NotJudged n) h y = one-range-no-number s one n h
+no-25 s q start Consistent h x =
+    let e = started-both s q start .1 in
+    ⊎-elim (λ z. omega arith) (λ z. omega arith) (refusals-two s q e start 25 (taken (familyOf q) s q) (best-taken s q e start) x)
+no-25 s q start (FailsCondition c) h x = let z : _≡_ {A = ℕ} 0 1 = cc in omega arith
+no-25 s q start (NotJudged n) h x = one-range-no-number s (started-both s q start .0) n h
 
 pub test-25 : (s : Spec) → (testOf s ≡ Refused 25) ↔ HasTwoRanges s
 unfolding testOf
 test-25 s =
-    rw (rates-begin s (λ q. testConsistent (consistencyOf s) s q) Refused)
-    (tells-25 s (ifRates (bothRates s) (λ q. testConsistent (consistencyOf s) s q) Refused) Refused (λ n e. cc) (λ one. no-25 s one (bothRates s) refl))
+    rates-tell-25 s (λ q. testConsistent (consistencyOf s) s q) Refused (λ n e. cc) (λ q start. no-25 s q start (consistencyOf s) refl)

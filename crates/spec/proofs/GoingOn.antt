@@ -13,6 +13,7 @@ use Rattle.spec.specs.declared.Range.{Range}
 use Rattle.spec.specs.declared.Range.the-variants.{Absent as NoRange, Present as RangeOf}
 use Rattle.spec.specs.declared.Spec.{Spec}
 use Rattle.spec.specs.declared.Rates.{Rates}
+use Rattle.spec.specs.declared.BothRates.{BothRates}
 use Rattle.spec.specs.declared.BothRates.the-variants.{Both, Refused}
 use Rattle.spec.specs.Limits.{limits, order, startsAbove, firstNumber, specNumber, IsAccepted, ifNone}
 use Rattle.spec.specs.Rates.{secondNumber, oneRangeNumber, HasTwoRanges, ifOneRange, ratesFrom, bothRates, started, ifRates}
@@ -64,13 +65,13 @@ HasOneRange s = oneRangeNumber s ≡ 0
 
 -- 25 follows 24, and is given exactly to an accepted specification with a second range.
 module _ (s : Spec) where
-  of-accepted : IsAccepted s → oneRangeNumber s ≡ secondNumber (s .second)
-  unfolding oneRangeNumber
-  of-accepted a = goes-on (specNumber s) (secondNumber (s .second)) (λ n. n) a
-
   of-refused : ¬ IsAccepted s → oneRangeNumber s ≡ specNumber s
   unfolding oneRangeNumber
   of-refused a = stops (specNumber s) (secondNumber (s .second)) (λ n. n) a
+
+  of-accepted : IsAccepted s → oneRangeNumber s ≡ secondNumber (s .second)
+  unfolding oneRangeNumber
+  of-accepted a = goes-on (specNumber s) (secondNumber (s .second)) (λ n. n) a
 
   pub one-range-iff : HasOneRange s ↔ (IsAccepted s × (s .second ≡ NoRange))
   one-range-iff = (
@@ -127,7 +128,7 @@ from-rates (Present b r) (Present l p) n e = absurd (let z : _≡_ {A = ℕ} 0 1
 from-rates (Present b r) Absent n e = let z : _≡_ {A = ℕ} 5 n = cc in sym z
 from-rates Absent demand n e = let z : _≡_ {A = ℕ} 5 n = cc in sym z
 
-pub rate-absent : (s : Spec) (n : ℕ) → bothRates s ≡ Refused n → n ≡ 5
+rate-absent : (s : Spec) (n : ℕ) → bothRates s ≡ Refused n → n ≡ 5
 unfolding bothRates
 rate-absent s n e = from-rates (s .supply) (s .demand) n e
 
@@ -140,3 +141,13 @@ module _ (s : Spec) (q : Rates) where
   pub started-at : HasOneRange s → bothRates s ≡ Both q → started s ≡ Both q
   unfolding started
   started-at h e = goes-on (oneRangeNumber s) (bothRates s) Refused h ∙ e
+
+-- what begins with both rates, and has no 25 of its own, tells 25 exactly there too
+pub rates-tell-25 : (s : Spec) {A : Type 0} (goOn : Rates → A) (tell : ℕ → A) → ((n : ℕ) → tell n ≡ tell 25 → n ≡ 25)
+    → ((q : Rates) → started s ≡ Both q → ¬ (goOn q ≡ tell 25)) → (ifRates (started s) goOn tell ≡ tell 25) ↔ HasTwoRanges s
+rates-tell-25 s goOn tell apart none =
+    rw (rates-begin s goOn tell) (tells-25 s (ifRates (bothRates s) goOn tell) tell apart (λ one. pick one (bothRates s) refl))
+  where
+    pick : HasOneRange s → (r : BothRates) → bothRates s ≡ r → ¬ (ifRates r goOn tell ≡ tell 25)
+    pick one (Both q) e x = none q (started-at s q one e) x
+    pick one (Refused n) e x = omega (arith, apart n x, rate-absent s n e)
