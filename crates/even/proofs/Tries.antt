@@ -109,8 +109,21 @@ module _ (l p q : ℕ) (square : p < q * q) where
         omega (arith, le-min (le-trans (min-le-left h q) under) (min-le-right h q));
   }
 
--- the tries of both ranges, where no more than b are left at any gap
+-- at most b tries of one range, and one more of both together
+abbrev TriesWithin : (b : ℕ) → Spec → ℕ → Type 0
+TriesWithin b spec n =
+    ((lo hi : ℕ) → 0 < lo → tries (spec .demand) lo n hi ≤ b)
+    × (triesOf (spec .demand) (spec .second) n + triesOf (spec .demand) (RangeOf (spec .smin) (spec .smax)) n ≤ b + 1)
+
+-- so it is where no more than b are left at any gap
 module _ (spec : Spec) (ok : IsAccepted spec) (left : ℕ → ℕ) (known : Left (spec .demand) left) (b n : ℕ) (most : (s : ℕ) → left s ≤ b) where
+  of-one : (lo hi : ℕ) → 0 < lo → tries (spec .demand) lo n hi ≤ b
+  of-one lo hi low =
+      ⊎-elim
+      (λ some. omega (arith, tries-left (spec .demand) left known lo low n hi some, most hi))
+      (λ none. omega (arith, tries-end (spec .demand) left known lo low n hi (omega arith)))
+      (lt-cases 0 hi)
+
   some-gap : 0 < spec .smax
   some-gap = let f = facts spec ok in omega (arith, f .gap-low, f .gaps)
 
@@ -126,11 +139,14 @@ module _ (spec : Spec) (ok : IsAccepted spec) (left : ℕ → ℕ) (known : Left
       let of-second = tries-above (spec .demand) left known lo (omega (arith, r .above)) (spec .smax) n hi some-gap (r .above) longer in
       omega (arith, of-second, of-first, known .rises (spec .smax) hi some-gap longer, most hi)
 
+  tries-within : TriesWithin b spec n
+  tries-within = (of-one, of-both (spec .second) refl)
+
 pub few-tries : FewTries
 few-tries spec ok n = by (spec .demand) refl
   where
-    by : (d : Rate) → spec .demand ≡ d → triesOf (spec .demand) (spec .second) n + triesOf (spec .demand) (RangeOf (spec .smin) (spec .smax)) n ≤ 285
-    by Absent e = of-both spec ok (λ s. 1) (rw e left-absent) 284 n (λ s. omega arith) (spec .second) refl
+    by : (d : Rate) → spec .demand ≡ d → TriesWithin 284 spec n
+    by Absent e = tries-within spec ok (λ s. 1) (rw e left-absent) 284 n (λ s. omega arith)
     by (Present l p) e =
         let few : p < 142 * 142 = omega (arith, present-limits e (facts spec ok .demand) .3) in
-        of-both spec ok (lack p 142) (rw e (left-present l p 142 few)) 284 n (λ s. omega (arith, min-le-right s 142)) (spec .second) refl
+        tries-within spec ok (lack p 142) (rw e (left-present l p 142 few)) 284 n (λ s. omega (arith, min-le-right s 142))

@@ -1,6 +1,6 @@
 -- How the largest gap is looked for: through the second range, then through the first. No part of what the even plan is: `evenGap` of
 -- Even.antt says that, and proofs/Jumps.antt, proofs/Search.antt and proofs/BothRanges.antt show that this search ends at it.
-use Prim.Native.Nat.{ℕ, zero, suc, _+_, _/_, _≤_}
+use Prim.Native.Nat.{ℕ, zero, suc, _+_, _/_, _≤_, _<_}
 use mathlib.Core.Bool.{true, false, _&&_}
 use lib.Dec.{leb}
 use Rattle.spec.specs.declared.Rate.{Rate}
@@ -36,7 +36,10 @@ unfoldable pub triesOf : Rate → Range → ℕ → ℕ
 triesOf d NoRange n = 0
 triesOf d (RangeOf lo hi) n = tries d lo n hi
 
--- For an accepted specification the searches of both ranges together try at most 285 gaps, of up to 20,160. Proved in proofs/Tries.antt.
+-- For an accepted specification the search of one range tries at most 284 gaps, of up to 20,160, and the searches of both together 285.
+-- Proved in proofs/Tries.antt.
 abbrev pub FewTries : Type 0
 FewTries =
-    (spec : Spec) → IsAccepted spec → (n : ℕ) → triesOf (spec .demand) (spec .second) n + triesOf (spec .demand) (RangeOf (spec .smin) (spec .smax)) n ≤ 285
+    (spec : Spec) → IsAccepted spec → (n : ℕ)
+    → ((lo hi : ℕ) → 0 < lo → tries (spec .demand) lo n hi ≤ 284)
+    × (triesOf (spec .demand) (spec .second) n + triesOf (spec .demand) (RangeOf (spec .smin) (spec .smax)) n ≤ 285)
