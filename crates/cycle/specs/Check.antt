@@ -49,7 +49,7 @@ cycleNumber spec ps =
     13)
     12
 
--- "Every operation given a specification as numbers begins with 3 and 4", and now with 24
+-- "Every operation given a specification as numbers begins with 3 and 4", then 24
 unfoldable pub checkNumber : Spec → List Pair → ℕ
 checkNumber spec ps = ifAccepted spec (cycleNumber spec ps) (λ n. n)
 

@@ -50,7 +50,7 @@ budgetOf (Present b r) = b
 abbrev pub fresh : Spec → Meter
 fresh spec = holdsNothing (spec .dmin) (spec .dmax) (spec .smin) (budgetOf (spec .supply)) (windowOf (spec .supply))
 
--- "Making a meter can give 3 or 4", and now 24; from a file 1 and 2 too: then, in place of one, a meter that has no size in range, and so
+-- "Making a meter can give 3 or 4", or 24 (Req 06), and from a file 1 or 2: then, in place of one, a meter that has no size in range, and so
 -- takes no offer (`takes-no-offer` of proofs/Making.antt)
 abbrev pub takesNone : Meter
 takesNone = holdsNothing 1 0 0 0 0

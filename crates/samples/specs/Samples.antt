@@ -250,8 +250,8 @@ samples =
     ∷ sample 3 10 45 80 10 79 17 159 (maximumSupply 1 79 10 20 ∷ testPasses 1 79 10 20 ∷ [])
     -- ★F
     ∷ sample 5 5 4 4 10 10 5 20 (consistencyGets 0 ∷ testRefuses 8 ∷ [])
-    -- a van of two shifts (document 02, Req 06): samples/shift.spec with its two cycles, of which one has a gap between the ranges; and the
-    -- same with ranges that touch, and that do not
+    -- a van of two shifts (document 02, Req 06): samples/shift.spec with its two cycles, of which one has a gap between the ranges; the
+    -- same with a second range that touches the first, and with one that starts at smax
     ∷ sampleWith (RangeOf 60 90) 1 10 5 15 22 60 8 90 (
     isReadFrom (0x2F ∷ 0 ∷ 1 ∷ 0 ∷ 10 ∷ 0 ∷ 5 ∷ 0 ∷ 15 ∷ 0 ∷ 22 ∷ 0 ∷ 60 ∷ 0 ∷ 8 ∷ 0 ∷ 90 ∷ 0 ∷ 60 ∷ 0 ∷ 90 ∷ [])
     ∷ consistencyGets 25

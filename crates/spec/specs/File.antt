@@ -57,8 +57,8 @@ specAt m b = record {
 abbrev pub accept : Spec → SpecRead
 accept s = ifAccepted s (Accepted s) Refused
 
--- "1 no first byte, or bit 5 to 7 stands, or bit 0 or 1 doesn't" (bit 5 may now); "2 the length is not what the map calls for"; then
--- 3, 4 and 24
+-- "1 no first byte, or bit 5 to 7 stands, or bit 0 or 1 doesn't", of which document 02 takes out bit 5; "2 the length is not what the
+-- map calls for"; then 3, 4 and 24
 unfoldable pub readSpec : List ℕ → SpecRead
 readSpec b =
     cond (ltb 0 (length b) && mapGood (getD b 0 0))

@@ -73,7 +73,7 @@ IsAccepted s = specNumber s ≡ 0
 unfoldable pub ifNone : {A : Type 0} → ℕ → A → (ℕ → A) → A
 ifNone n goOn tell = cond (eqb n 0) goOn (tell n)
 
--- "Every operation given a specification as numbers begins with 3 and 4", and now with 24
+-- "Every operation given a specification as numbers begins with 3 and 4", then 24
 abbrev pub ifAccepted : {A : Type 0} → Spec → A → (ℕ → A) → A
 ifAccepted s = ifNone (specNumber s)
 

@@ -1,4 +1,5 @@
--- 3, 4, 24 and 25 by `one_range_number`; the first condition that fails by `conditions_of`, whose divisors are no 0 in an accepted specification.
+-- 3, 4, 24 and 25 by `one_range_number`; the first condition that fails by `conditions_of`, whose divisors are no 0 in an accepted
+-- specification.
 use Rattle.consistency.specs.declared.Consistency.the-variants.{Refused}
 use Rattle.consistency.specs.Consistency.{consistencyOf}
 use Rattle.spec.proofs.GoingOn.{goes-on, stops, one-range-iff}
