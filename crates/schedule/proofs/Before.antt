@@ -1,17 +1,19 @@
 -- The number of reports before a minute, and what it says of stretches: they add up, the fullest start at a report, and the thinnest a
--- minute after one.
-use Prim.Native.Nat.{ℕ, zero, suc, _+_, _-_, _≤_, _<_}
+-- minute after one; those that start at a report hold what the longest gap leaves them.
+use Prim.Native.Nat.{ℕ, zero, suc, _+_, _-_, _*_, _≤_, _<_}
 use native.Mathlib.Omega.{arith}
-use native.Mathlib.Nat.{add-assoc, add-zero, zero-add, sub-zero}
+use native.Mathlib.Nat.{add-assoc, add-zero, zero-add, sub-zero, add-mul, one-mul, zero-mul, le-trans, mul-le-mul-right}
 use native.Mathlib.Numerals.{add-one}
 use mathlib.Core.Path.{_≡_, refl}
 use mathlib.Core.Logic.{_↔_, ⊎-elim}
 use mathlib.Core.Bool.{Bool, true, false, cond}
 use lib.Dec.{ltb}
 use borrow.Author.Tests.{ltb-true, ltb-false}
+use Rattle.numbers.specs.Numbers.{ceil}
 use Rattle.numbers.proofs.Cases.{lt-cases}
+use Rattle.numbers.proofs.Ceilings.{lt-ceil-iff}
 use Rattle.schedule.specs.Schedules.{Schedule, sum, minute, stretch}
-use Rattle.schedule.proofs.Sums.{sum-none, sum-more, sum-block, block, block-add, block-one, block-part}
+use Rattle.schedule.proofs.Sums.{sum-none, sum-more, sum-block, block, block-add, block-one, block-least, block-part}
 use Rattle.schedule.proofs.Stretches.{stretch-block}
 
 -- how many reports lie before minute m, counted among the first m: where no gap is 0, report i is at minute i or later
@@ -171,3 +173,28 @@ module _ (s : Schedule) where
         let m : minute s j < a = before-iff a j .1 (omega arith) in
         rw (stretch-before a w, stretch-before (minute s j + 1) w, before-next j, e)
         (block-part (s .size) (reportsBefore s a) _ _ (omega (arith, before-mono (minute s j + 1 + w) (a + w) (omega arith))))
+
+    -- Where no gap is longer than g, report j + n comes at most n × g minutes after report j. So w minutes that begin with a report have ⌈w/g⌉
+    -- reports or more, and hold as many times what each holds at least.
+    module _ (g : ℕ) (short : (i : ℕ) → s .gap i ≤ g) where
+      minute-most : (j n : ℕ) → minute s (j + n) ≤ minute s j + n * g
+      minute-most j zero = rw (add-zero, zero-mul, add-zero) (omega arith)
+      minute-most j (suc n) = rw (← add-one n, ← add-assoc j n 1, minute-more (j + n)) (omega (arith, add-mul n 1 g, one-mul g, minute-most j n, short (j + n)))
+
+      reports-least : (j w : ℕ) → ceil w g ≤ reportsBefore s (minute s j + w) - j
+      reports-least j w =
+          let n = reportsBefore s (minute s j + w) - j in
+          let low : j ≤ reportsBefore s (minute s j + w) = rw (before-minute j) at (before-mono (minute s j) (minute s j + w) (omega arith)) in
+          ⊎-elim
+          (λ q.
+          absurd
+          (let near = lt-ceil-iff w g n (omega (arith, later j, short j)) .0 q in
+          let r = before-iff (minute s j + w) (j + n) .0 (omega (arith, minute-most j n)) in
+          omega arith))
+          (λ q. q)
+          (lt-cases n (ceil w g))
+
+      pub stretch-least : (d : ℕ) → ((i : ℕ) → d ≤ s .size i) → (j w : ℕ) → ceil w g * d ≤ stretch s (minute s j) w
+      stretch-least d full j w =
+          rw (stretch-before (minute s j) w, before-minute j)
+          (le-trans (mul-le-mul-right d (reports-least j w)) (block-least (s .size) d full j _))

@@ -9,11 +9,12 @@ use mathlib.Core.Logic.{_⊎_, inl, inr, ⊎-elim}
 use mathlib.Core.Bool.{Bool, true, false, cond}
 use lib.Dec.{leb, ltb}
 use borrow.Author.Tests.{le-leb, leb-true, ltb-true, ltb-false}
+use Rattle.numbers.specs.Numbers.{ceil}
 use Rattle.numbers.proofs.Cases.{lt-cases}
-use Rattle.schedule.specs.Schedules.{Schedule, sum, minute}
+use Rattle.schedule.specs.Schedules.{Schedule, sum, minute, stretch}
 use Rattle.schedule.specs.Moments.{greatest, lastReport, IsLast, distance, firstLeast, nearestReport, IsNearest, counted, reportsFrom, recordsFrom}
 use Rattle.schedule.proofs.Sums.{sum-const}
-use Rattle.schedule.proofs.Before.{reportsBefore, minute-none, minute-least, minute-mono, minute-rise, before-iff, stretch-add, first-minutes}
+use Rattle.schedule.proofs.Before.{reportsBefore, minute-none, minute-least, minute-mono, minute-rise, before-iff, stretch-add, first-minutes, stretch-least}
 
 -- the greatest of 0, .., n that passes, where 0 does
 module _ (passes : ℕ → Bool) (some : passes 0 ≡ true) where
@@ -195,3 +196,8 @@ module _ (s : Schedule) (later : (i : ℕ) → 1 ≤ s .gap i) where
 
   pub reports-until : (m : ℕ) → reportsFrom s 0 (m + 1) ≡ lastReport s m + 1
   reports-until m = reports-first (m + 1) ∙ last-counted s later m
+
+  -- where no gap is longer than g, w minutes that begin with a report have ⌈w/g⌉ reports or more
+  pub reports-least : (g : ℕ) → ((i : ℕ) → s .gap i ≤ g) → (i w : ℕ) → ceil w g ≤ stretch (counted s) (minute s i) w
+  unfolding minute
+  reports-least g short i w = rw mul-one at (stretch-least (counted s) later g short 1 (λ j. omega arith) i w)
