@@ -20,7 +20,7 @@ use Rattle.plan.proofs.WellFormed.{size-range, gap-range}
 use Rattle.families.specs.declared.Family.{Family}
 use Rattle.families.specs.declared.Family.the-variants.{MinimumDemand, MaximumSupply}
 use Rattle.families.specs.declared.Scheduled.the-variants.{Found, Refused}
-use Rattle.families.specs.Families.{exists, planFor, supplyFigure, scheduled}
+use Rattle.families.specs.Families.{exists, planFor, supplyFigure, figureOf, scheduled}
 
 -- what is scheduled, by whether it exists
 module _ (f : Family) (s : Spec) (q : Rates) (k : ℕ) where
@@ -31,6 +31,11 @@ module _ (f : Family) (s : Spec) (q : Rates) (k : ℕ) where
   pub scheduled-some : exists f s q k ≡ true → scheduled f s q k ≡ Found (planFor f s q k) (supplyFigure f q (planFor f s q k))
   unfolding scheduled
   scheduled-some e = rw (scheduled, e)
+
+-- the figure of a proper plan
+pub figure-proper : (f : Family) (q : Rates) (plan : Plan) → proper plan ≡ true → figureOf f q plan ≡ supplyFigure f q plan
+unfolding figureOf
+figure-proper f q plan ok = rw ok
 
 -- averages in range, and few reports
 pub record InRange (s : Spec) (k π δ : ℕ) : Type 0 where

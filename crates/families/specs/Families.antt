@@ -4,7 +4,7 @@
 -- the minutes of its figure. k is any number; 0 and those too large have no schedule by the inequalities themselves. Document 02, Req 06:
 -- 24, and 25 before 5.
 use Prim.Native.Nat.{ℕ, zero, suc, _-_, _*_, min, max}
-use mathlib.Core.Bool.{Bool, true, false, _&&_}
+use mathlib.Core.Bool.{Bool, true, false, cond, _&&_}
 use lib.Dec.{leb}
 use Rattle.spec.specs.declared.Spec.{Spec}
 use Rattle.spec.specs.declared.Rates.{Rates}
@@ -12,7 +12,7 @@ use Rattle.spec.specs.Rates.{started, ifRates}
 use Rattle.schedule.specs.Schedules.{stretch}
 use Rattle.plan.specs.declared.Kind.the-variants.{WellFormed}
 use Rattle.plan.specs.declared.Plan.{Plan}
-use Rattle.plan.specs.Plans.{run, planOf}
+use Rattle.plan.specs.Plans.{proper, run, planOf}
 use Rattle.families.specs.declared.Family.{Family}
 use Rattle.families.specs.declared.Family.the-variants.{MinimumDemand, MaximumSupply}
 use Rattle.families.specs.declared.Scheduled.{Scheduled}
@@ -46,6 +46,10 @@ available plan p = least (λ a. stretch (run plan) a p) (plan .period - 1)
 unfoldable pub supplyFigure : Family → Rates → Plan → ℕ
 supplyFigure MinimumDemand q plan = required plan (q .r)
 supplyFigure MaximumSupply q plan = available plan (q .p)
+
+-- the figure of any plan: one that is not proper is no schedule, and has 0
+unfoldable pub figureOf : Family → Rates → Plan → ℕ
+figureOf f q plan = cond (proper plan) (supplyFigure f q plan) 0
 
 -- the schedule with k reports, or "6 no schedule with k"
 unfoldable pub scheduled : Family → Spec → Rates → ℕ → Scheduled

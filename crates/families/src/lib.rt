@@ -17,7 +17,7 @@ ghost use Rattle.spec.specs.Rates.{started};
 ghost use Rattle.schedule.specs.Schedules.{stretch};
 ghost use Rattle.plan.specs.declared.Kind.the-variants.{WellFormed};
 ghost use Rattle.plan.specs.Plans.{proper, run, planOf};
-ghost use Rattle.families.specs.Families.{exists, planFor, required, available, supplyFigure, scheduled, scheduleFor};
+ghost use Rattle.families.specs.Families.{exists, planFor, required, available, supplyFigure, figureOf, scheduled, scheduleFor};
 
 pub enum Family {
     MinimumDemand,
@@ -62,21 +62,21 @@ fn well_formed(k: u32, period: u64, total: u64) -> Plan
     }
 }
 
-// The plan of the family's schedule with k reports.
-fn plan_for(f: Family, s: Spec, q: Rates, k: u32) -> Plan
-    requires { ⌜ (started s ≡ Both q) × (exists f s q k ≡ true) ⌝ }
+// The plan of the family's schedule with k reports, whether or not there is such a schedule: no product of 16-bit numbers is too large.
+pub fn plan_for(f: Family, s: Spec, q: Rates, k: u16) -> Plan
     ensures { λ r. ⌜ r ≡ planFor f s q k ⌝ }
 {
+    let count = k as u32;
     match f {
         Family::MinimumDemand => well_formed(
-            k,
-            smaller(times(k, s.smax), q.p as u64),
-            larger(times(k, s.dmin), q.l as u64),
+            count,
+            smaller(times(count, s.smax), q.p as u64),
+            larger(times(count, s.dmin), q.l as u64),
         ),
         Family::MaximumSupply => well_formed(
-            k,
-            larger(times(k, s.smin), q.r as u64),
-            smaller(times(k, s.dmax), q.b as u64),
+            count,
+            larger(times(count, s.smin), q.r as u64),
+            smaller(times(count, s.dmax), q.b as u64),
         ),
     }
 }
@@ -126,7 +126,18 @@ fn supply_figure(f: Family, q: Rates, plan: Plan) -> u32
     }
 }
 
-// The schedule with k reports and its supply figure, in a few divisions whatever the minutes and k are.
+// The supply figure of any plan, 0 of one that is not proper; in a few divisions whatever the minutes and k are.
+pub fn figure_of(f: Family, q: Rates, plan: Plan) -> u32
+    ensures { λ v. ⌜ v ≡ figureOf f q plan ⌝ }
+{
+    if plan::is_proper(plan) {
+        supply_figure(f, q, plan)
+    } else {
+        0
+    }
+}
+
+// The schedule with k reports and its supply figure.
 fn scheduled_with(f: Family, s: Spec, q: Rates, k: u32) -> Scheduled
     requires { ⌜ started s ≡ Both q ⌝ }
     ensures { λ r. ⌜ r ≡ scheduled f s q k ⌝ }
@@ -134,7 +145,7 @@ fn scheduled_with(f: Family, s: Spec, q: Rates, k: u32) -> Scheduled
     if !schedule_exists(f, s, q, k) {
         return Scheduled::Refused(spec::refusal::NO_SCHEDULE);
     }
-    let plan = plan_for(f, s, q, k);
+    let plan = plan_for(f, s, q, k as u16);
     let supply = supply_figure(f, q, plan);
     Scheduled::Found { plan, supply }
 }

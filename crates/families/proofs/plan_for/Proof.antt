@@ -1,13 +1,21 @@
--- A schedule that exists has a proper plan, so that its period and total fit 32 bits.
+-- A product of two 16-bit numbers fits 32 bits, and so does the smaller or the larger of it and a third.
+use Prim.Native.Nat.{ℕ, _*_, _≤_, _<_, min, max}
 use native.Mathlib.Omega.{arith}
-use Rattle.spec.proofs.KnownRates.{known}
-use Rattle.families.specs.declared.Family.the-variants.{MinimumDemand, MaximumSupply}
+use mathlib.Core.Path.{_≡_}
+use Rattle.spec.proofs.Products.{fits-mul}
 use Rattle.families.specs.Families.{planFor}
-use Rattle.plan.proofs.Proper.{numbers}
-use Rattle.families.proofs.Plans.{plan-proper}
 use borrow.Author.Needs.{needs}
 use Rattle.families.proofs.plan_for.Statement.{statement}
 use Rattle.families.proofs.plan_for.Tie as tie
+
+product : {n a b : ℕ} → n ≡ a * b → a ≤ 65535 → b ≤ 65535 → n < 4294967296
+product e x y = rw e (fits-mul 32 65535 65535 tt x y)
+
+smaller-fits : {n a : ℕ} (b : ℕ) → n ≡ min a b → a < 4294967296 → n < 4294967296
+smaller-fits b e x = omega arith
+
+larger-fits : {n a b : ℕ} → n ≡ max a b → a < 4294967296 → b ≤ 65535 → n < 4294967296
+larger-fits e x y = omega arith
 
 enum-told : tie.Need-enum-told
 enum-told c = search needs
@@ -31,12 +39,10 @@ larger-requires : tie.Need-larger-requires
 larger-requires c κs = search needs
 
 well-formed-requires : tie.Need-well-formed-requires
-unfolding planFor
-well-formed-requires c κs =
-    let start = c .before .before .before .before .before .before .before .before in
-    let e = c .before .before .before .before .before .before .enum-told .given .1 in
-    let n = numbers _ (plan-proper _ _ (known _ _ (start .pre .0)) MinimumDemand _ (rw e at (start .pre .1))) in
-    rw (c .larger .ensures, c .before .before .times2 .ensures, c .before .before .before .smaller .ensures, c .before .before .before .before .before .times .ensures) (omega arith, omega arith)
+well-formed-requires c κs = (
+  smaller-fits _ (c .before .before .before .smaller .ensures) (product (c .before .before .before .before .before .times .ensures) (search needs) (search needs)),
+  larger-fits (c .larger .ensures) (product (c .before .before .times2 .ensures) (search needs) (search needs)) (search needs),
+)
 
 enum-told-2 : tie.Need-enum-told-2
 enum-told-2 c = search needs
@@ -60,12 +66,10 @@ smaller-requires-2 : tie.Need-smaller-requires-2
 smaller-requires-2 c κs = search needs
 
 well-formed-requires-2 : tie.Need-well-formed-requires-2
-unfolding planFor
-well-formed-requires-2 c κs =
-    let start = c .before .before .before .before .before .before .before .before in
-    let e = c .before .before .before .before .before .before .enum-told2 .given .1 in
-    let n = numbers _ (plan-proper _ _ (known _ _ (start .pre .0)) MaximumSupply _ (rw e at (start .pre .1))) in
-    rw (c .smaller2 .ensures, c .before .before .times4 .ensures, c .before .before .before .larger2 .ensures, c .before .before .before .before .before .times3 .ensures) (omega arith, omega arith)
+well-formed-requires-2 c κs = (
+  larger-fits (c .before .before .before .larger2 .ensures) (product (c .before .before .before .before .before .times3 .ensures) (search needs) (search needs)) (search needs),
+  smaller-fits _ (c .smaller2 .ensures) (product (c .before .before .times4 .ensures) (search needs) (search needs)),
+)
 
 returns : tie.Need-returns
 unfolding planFor

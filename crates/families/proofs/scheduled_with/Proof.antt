@@ -1,6 +1,7 @@
 -- Without a schedule 6; else its plan is proper and well-formed, as the figure asks, and both are the definition's.
+use native.Mathlib.Omega.{arith}
 use Rattle.spec.proofs.KnownRates.{known}
-use Rattle.families.proofs.Plans.{plan-proper, scheduled-none, scheduled-some}
+use Rattle.families.proofs.Plans.{in-range, plan-proper, scheduled-none, scheduled-some}
 use mathlib.Core.Path.{sym}
 use Rattle.numbers.proofs.Negated.{held, failed}
 use borrow.Author.Needs.{needs}
@@ -13,9 +14,13 @@ schedule-exists-requires c κs = search needs
 returns : tie.Need-returns
 returns c = sym (scheduled-none _ _ _ _ (failed (c .before .schedule-exists .ensures) (c .if1 .taken)))
 
+cast-plan-for : tie.Need-cast-plan-for
+cast-plan-for c =
+    let n = known _ _ (c .before .before .pre) in
+    record { fits = omega (arith, in-range _ _ n _ _ (held (c .before .schedule-exists .ensures) (c .if1 .left)) .few) }
+
 plan-for-requires : tie.Need-plan-for-requires
-plan-for-requires c κs =
-    (c .before .before .pre, held (c .before .schedule-exists .ensures) (c .if1 .left))
+plan-for-requires c κs = search needs
 
 supply-figure-requires : tie.Need-supply-figure-requires
 supply-figure-requires c κs =
@@ -31,4 +36,4 @@ returns-2 c =
 pub scheduled-with-spec : {M : Type 1} → statement M
 scheduled-with-spec =
     tie.close
-    (tie.spec schedule-exists-requires returns plan-for-requires supply-figure-requires returns-2)
+    (tie.spec schedule-exists-requires returns cast-plan-for plan-for-requires supply-figure-requires returns-2)
