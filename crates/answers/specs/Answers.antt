@@ -57,7 +57,7 @@ abbrev pub scheduledAnswer : Scheduled → Answer
 scheduledAnswer (ScheduleOf plan v) = yields (planNumbers plan (v ∷ []))
 scheduledAnswer (NoneFound n) = refusal n
 
--- the test: the numbers of the plan that it passes and its supply figure, or 7, or 3, 4, 24, 25, 5, 8, 9
+-- the test: the numbers of the plan that it passes and its supply figure, or 7, or 3, 4, 24, 25, 5, 9
 abbrev pub testedAnswer : Tested → Answer
 testedAnswer (Passed plan v) = yields (planNumbers plan (v ∷ []))
 testedAnswer (Inconsistent c) = inconsistent c

@@ -1,7 +1,7 @@
--- Document 01, "Consistency (000, Theorem 1; 1 and 2 are the ranges): 3: dmax ≤ B, smax ≤ P, P ≤ Tmin. 4: dmin × ⌊R/smax⌋ ≤ B.
--- 5: ⌈L/dmax⌉ ≤ ⌊P/smin⌋. 6: B × P ≥ L × R. A part that names an absent value is not applied."; and what it turns down: 3, 4,
--- 24 and 25 (document 02, Req 06), then "7, carrying the first condition that fails". Each part of condition 3 is applied by itself:
--- P ≤ Tmin waits for no supply rate.
+-- Document 01, "Consistency (000, Theorem 1; 1 and 2 are the ranges): 3: dmax ≤ B, smax ≤ P, P ≤ Tmin. 4: ..
+-- 5: ⌈L/dmax⌉ ≤ ⌊P/smin⌋. 6: B × P ≥ L × R. A part that names an absent value is not applied."; document 02, Req 07: "Condition 4
+-- becomes dmin × ⌈R/smax⌉ ≤ B"; and what it turns down: 3, 4, 24 and 25 (document 02, Req 06), then "7, carrying the first condition
+-- that fails". Each part of condition 3 is applied by itself: P ≤ Tmin waits for no supply rate.
 use Prim.Native.Nat.{ℕ, _*_, _/_}
 use mathlib.Core.Bool.{Bool, true, cond, _&&_}
 use lib.Dec.{leb}
@@ -38,9 +38,9 @@ demandFitsDuration s = whereRate (s .demand) (λ l p. whereRange (s .duration) (
 unfoldable pub boundsFitRates : Spec → Bool
 boundsFitRates s = sizeFitsBudget s && gapFitsDemand s && demandFitsDuration s
 
--- "4: dmin × ⌊R/smax⌋ ≤ B."
+-- "R minutes that begin with one hold at least ⌈R/smax⌉ reports. Condition 4 becomes dmin × ⌈R/smax⌉ ≤ B"
 unfoldable pub fewestReportsFitBudget : Spec → Bool
-fewestReportsFitBudget s = whereRate (s .supply) (λ b r. leb (s .dmin * (r / s .smax)) b)
+fewestReportsFitBudget s = whereRate (s .supply) (λ b r. leb (s .dmin * ceil r (s .smax)) b)
 
 -- "5: ⌈L/dmax⌉ ≤ ⌊P/smin⌋."
 unfoldable pub enoughReportsForDemand : Spec → Bool

@@ -72,15 +72,15 @@ fn bounds_fit_rates(s: Spec) -> bool
     size_fits_budget(s) & gap_fits_demand(s) & demand_fits_duration(s)
 }
 
-// Condition 4.
+// Condition 4: R minutes that begin with a report hold ⌈R/smax⌉ reports or more.
 fn fewest_reports_fit_budget(s: Spec) -> bool
-    requires { ⌜ IsAccepted s ⌝ }
     ensures { λ r. ⌜ r ≡ fewestReportsFitBudget s ⌝ }
 {
     let supply = s.supply;
     match supply {
         Rate::Absent => true,
-        Rate::Present { records, minutes } => (s.dmin as u64) * ((minutes as u64) / (s.smax as u64))
+        Rate::Present { records, minutes } => (s.dmin as u64)
+            * ceil_div(minutes as u64, s.smax as u64)
             <= records as u64,
     }
 }

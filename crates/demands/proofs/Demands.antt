@@ -22,11 +22,13 @@ use Rattle.plan.specs.Plans.{proper, run}
 use Rattle.plan.specs.Reports.{reportOf}
 use Rattle.schedule.proofs.Sums.{block}
 use Rattle.schedule.proofs.StretchSum.{stretch-is-sum}
+use Rattle.schedule.proofs.Moments.{reports-least}
 use Rattle.plan.proofs.Runs.{report-0-fullest, front-fullest, row-range, row-total}
 use Rattle.plan.proofs.ThereAndBack.{last-exact, nearest-exact, there-and-back, between-exact, counts-add-up}
 use Rattle.consistency.proofs.Conditions.{consistency-25}
 use Rattle.families.proofs.Schedules.{required-is-most, available-is-least, schedule-25}
-use Rattle.feasibility.proofs.Theorems.{test-passes, test-sound, test-25}
+use Rattle.feasibility.proofs.Theorems.{test-passes, test-finds, test-sound, test-numbers, test-25}
+use Rattle.feasibility.proofs.Needed.{fourth-needed}
 use Rattle.even.proofs.EvenPlans.{even-plan-obeys, even-plan-longest, even-plan-refused}
 use Rattle.pairs.specs.declared.Pair.{Pair}
 use Rattle.cycle.specs.Cycles.{cycleRun}
@@ -115,6 +117,10 @@ demands = record {
   required-supply = required-is-most;
   available-supply = available-is-least;
   test-best = λ s q p v rates e. test-passes s q p v rates .0 e .1;
+  carriers-count = λ t smax gaps. reports-least t (λ i. gaps i .0) smax (λ i. gaps i .1);
+  condition-4-needed = fourth-needed;
+  test-finds = test-finds;
+  test-numbers = test-numbers;
   every-report = report-is;
   fuller-first = λ p ok. (report-0-fullest p ok, front-fullest p ok);
   even-rows = row-range;

@@ -27,7 +27,8 @@ use Rattle.plan.specs.declared.moments.Found.the-variants.{Number}
 use Rattle.plan.specs.declared.moments.Contents.the-variants.{Held}
 use Rattle.plan.specs.Reports.{reportOf}
 use Rattle.plan.specs.Moments.{lastOf, nearestOf, betweenOf}
-use Rattle.consistency.specs.declared.Consistency.the-variants.{Refused as NotJudged}
+use Rattle.consistency.specs.declared.Condition.the-variants.{FewestReportsFitBudget}
+use Rattle.consistency.specs.declared.Consistency.the-variants.{Consistent, Inconsistent, Refused as NotJudged}
 use Rattle.consistency.specs.Consistency.{consistencyOf}
 use Rattle.families.specs.declared.Family.{Family}
 use Rattle.families.specs.declared.Family.the-variants.{MinimumDemand, MaximumSupply}
@@ -98,6 +99,15 @@ pub record Demands : Type 0 where
       → ((a : ℕ) → v ≤ stretch (run p) a (q .p)) × ((a : ℕ) × (stretch (run p) a (q .p) ≡ v))
   -- the test's schedule has the best figure over all k, and of equals the smallest k
   pub test-best : (s : Spec) (q : Rates) (p : Plan) (v : ℕ) → bothRates s ≡ Both q → testOf s ≡ Passed p v → BestOfAll (familyOf q) s p v
+  -- Condition 4 follows the carrier's count (document 02, Req 07). R minutes that begin with a report hold at least ⌈R/smax⌉ reports, in every
+  -- schedule with no gap 0 and none above smax; so no schedule at all obeys a specification that condition 4 turns away.
+  pub carriers-count : (t : Schedule) (smax : ℕ) → ((i : ℕ) → (1 ≤ t .gap i) × (t .gap i ≤ smax)) → (i r : ℕ) → ceil r smax ≤ stretch (counted t) (minute t i) r
+  pub condition-4-needed : (s : Spec) → consistencyOf s ≡ Inconsistent FewestReportsFitBudget → (t : Schedule) → ¬ Obeys s t
+  -- the test finds some k for every consistent specification with both rates: there is a best of all k, and it passes that or gives 9
+  pub test-finds : (s : Spec) (q : Rates) → bothRates s ≡ Both q → consistencyOf s ≡ Consistent
+      → (p : Plan) × (v : ℕ) × BestOfAll (familyOf q) s p v × ((testOf s ≡ Passed p v) ⊎ (testOf s ≡ NotTested 9))
+  -- so beside 7 it has no numbers but 3 to 5, 9, 24 and 25: 8 is given to nobody
+  pub test-numbers : (s : Spec) (n : ℕ) → testOf s ≡ NotTested n → ((3 ≤ n) × (n ≤ 5)) ⊎ ((n ≡ 9) ⊎ ((24 ≤ n) × (n ≤ 25)))
   -- report i of a proper plan is report i of its endless run, for every i without upper end
   pub every-report : (p : Plan) (i : ℕ) → proper p ≡ true → reportOf p i ≡ At (minute (run p) i) (run p .size i)
   -- The first report is the fuller one (document 02, Req 02). In a plan of either kind no report is fuller than report 0, and no stretch

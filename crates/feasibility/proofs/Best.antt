@@ -1,29 +1,31 @@
--- What is taken is the best of all k. Up to n: by induction, the schedule taken has a figure as good as every one up to n, and the
--- smallest number of reports of those as good. Beyond the last count no k has a schedule, so that up to there is all.
-use Prim.Native.Nat.{ℕ, zero, suc, _≤_}
+-- What is taken is the best of all k, where there is a schedule at all. From the first count on: by induction, the schedule taken has a
+-- figure as good as every one so far, and the smallest number of reports of those as good. No other k has a schedule, so that up to the last
+-- count is all.
+use Prim.Native.Nat.{ℕ, zero, suc, _+_, _-_, _≤_}
 use native.Mathlib.Omega.{arith}
 use native.Mathlib.Nat.{le-trans}
-use mathlib.Core.Path.{_≡_, refl, _∙_, ap}
+use native.Mathlib.Numerals.{add-one}
+use mathlib.Core.Path.{_≡_, refl, sym, _∙_, ap}
 use mathlib.Core.Logic.{⊎-elim}
 use mathlib.Core.Bool.{Bool, true, false, cond}
 use borrow.Author.Tests.{ltb-true, ltb-false}
-use Rattle.spec.specs.declared.Spec.{Spec}
 use Rattle.numbers.proofs.Cases.{lt-cases}
+use Rattle.spec.specs.declared.Spec.{Spec}
+use Rattle.spec.specs.declared.Rates.{Rates}
+use Rattle.spec.proofs.KnownRates.{Known}
 use Rattle.plan.specs.declared.Plan.{Plan}
 use Rattle.families.specs.declared.Family.{Family}
 use Rattle.families.specs.declared.Family.the-variants.{MinimumDemand, MaximumSupply}
-use Rattle.spec.specs.declared.Rates.{Rates}
-use Rattle.families.specs.declared.Scheduled.{Scheduled}
-use Rattle.families.specs.declared.Scheduled.the-variants.{Found, Refused}
-use Rattle.families.specs.Families.{scheduleFor}
-use Rattle.feasibility.specs.Test.{isBetter, betterOf, takenUpTo, lastCount, taken, AsGood, BestOfAll}
-use Rattle.spec.proofs.KnownRates.{Known}
-use Rattle.families.proofs.Plans.{in-range}
-use Rattle.families.proofs.Schedules.{found-at}
-use Rattle.feasibility.proofs.Taking.{exists-count}
+use Rattle.families.specs.declared.Scheduled.the-variants.{Found}
+use Rattle.families.specs.Families.{supplyFigure, scheduleFor}
+use Rattle.families.proofs.Plans.{plan-count}
+use Rattle.families.proofs.Schedules.{found-at, some-at}
+use Rattle.feasibility.specs.declared.Taken.{Taken}
+use Rattle.feasibility.specs.Test.{firstCount, lastCount, scheduleWith, isBetter, betterOf, takenFrom, taken, AsGood, BestOfAll}
+use Rattle.feasibility.proofs.Counts.{exists-iff}
 
 -- figures of a family are ordered
-pub good-same : (f : Family) {v w : ℕ} → v ≡ w → AsGood f v w
+good-same : (f : Family) {v w : ℕ} → v ≡ w → AsGood f v w
 good-same MinimumDemand e = omega arith
 good-same MaximumSupply e = omega arith
 
@@ -50,97 +52,88 @@ unfolding isBetter
 not-better MinimumDemand v w e = omega (arith, ltb-false v w e)
 not-better MaximumSupply v w e = omega (arith, ltb-false w v e)
 
-module _ (f : Family) (schedule : ℕ → Scheduled) where
-  -- no schedule up to n
-  NoneUpTo : ℕ → Type 0
-  NoneUpTo n = (k : ℕ) → 1 ≤ k → k ≤ n → (other : Plan) (w : ℕ) → schedule k ≡ Found other w → ⊥
+module _ (f : Family) (schedule : ℕ → Taken) (from : ℕ) where
+  abbrev figure : ℕ → ℕ
+  figure k = schedule k .supply
 
-  -- the schedule with j reports is the best up to n, and the first of those
-  record FirstBest (n : ℕ) (plan : Plan) (v : ℕ) : Type 0 where
+  -- the schedule with j reports is the best of those from the first up to m, and the first of the best
+  record FirstBest (m : ℕ) (t : Taken) : Type 0 where
     j : ℕ
-    inside : j ≤ n
-    is : schedule j ≡ Found plan v
-    best : (k : ℕ) → 1 ≤ k → k ≤ n → (other : Plan) (w : ℕ) → schedule k ≡ Found other w → AsGood f v w
-    first : (k : ℕ) → 1 ≤ k → k ≤ n → (other : Plan) → schedule k ≡ Found other v → j ≤ k
+    inside : (from ≤ j) × (j ≤ m)
+    is : schedule j ≡ t
+    best : (k : ℕ) → from ≤ k → k ≤ m → AsGood f (t .supply) (figure k)
+    first : (k : ℕ) → from ≤ k → k ≤ m → figure k ≡ t .supply → j ≤ k
 
-  abbrev BestUpTo : ℕ → Scheduled → Type 0
-  BestUpTo n (Refused m) = (m ≡ 8) × NoneUpTo n
-  BestUpTo n (Found plan v) = FirstBest n plan v
+  -- one more: those up to m, and the last
+  up-to-suc : {X : Type 0} (m k : ℕ) → k ≤ m + 1 → (k ≤ m → X) → (k ≡ m + 1 → X) → X
+  up-to-suc m k h a b = ⊎-elim (λ q. a (omega arith)) (λ q. b (omega arith)) (lt-cases k (m + 1))
 
-  -- up to suc n: those up to n, and the last
-  upTo-suc : {X : Type 0} (n k : ℕ) → k ≤ suc n → (k ≤ n → X) → (k ≡ suc n → X) → X
-  upTo-suc n k h a b = ⊎-elim (λ q. a (omega arith)) (λ q. b (omega arith)) (lt-cases k (suc n))
-
-  step : (n : ℕ) (t next : Scheduled) → schedule (suc n) ≡ next → BestUpTo n t → BestUpTo (suc n) (betterOf f t next)
-  unfolding betterOf NoneUpTo
-  step n (Refused m) (Refused i) e h =
-      (h .0, λ k a b other w x. upTo-suc n k b (λ q. h .1 k a q other w x) (λ q. absurd (let y : schedule (suc n) ≡ Found other w = rw (← q) x in let z : _≡_ {A = ℕ} 0 1 = cc in omega arith)))
-  step n (Found plan v) (Refused i) e h = record {
-    j = h .j;
-    inside = omega (arith, h .inside);
-    is = h .is;
-    best = λ k a b other w x. upTo-suc n k b (λ q. h .best k a q other w x) (λ q. absurd (let y : schedule (suc n) ≡ Found other w = rw (← q) x in let z : _≡_ {A = ℕ} 0 1 = cc in omega arith));
-    first = λ k a b other x. upTo-suc n k b (λ q. h .first k a q other x) (λ q. omega (arith, h .inside));
-  }
-  step n (Refused m) (Found next u) e h = record {
-    j = suc n;
-    inside = omega arith;
-    is = e;
-    best = λ k a b other w x.
-        upTo-suc n k b (λ q. absurd (h .1 k a q other w x)) (λ q. let y : schedule (suc n) ≡ Found other w = rw (← q) x in good-same f (cc));
-    first = λ k a b other x. upTo-suc n k b (λ q. absurd (h .1 k a q other u x)) (λ q. omega arith);
-  }
-  step n (Found plan v) (Found next u) e h = pick (isBetter f u v) refl
+  step : (m : ℕ) (t : Taken) → from ≤ m → FirstBest m t → FirstBest (m + 1) (betterOf f t (schedule (m + 1)))
+  unfolding betterOf
+  step m t low h = pick (isBetter f (figure (m + 1)) (t .supply)) refl
     where
-      pick : (b : Bool) → isBetter f u v ≡ b → BestUpTo (suc n) (cond b (Found next u) (Found plan v))
+      last : {k : ℕ} → k ≡ m + 1 → figure (m + 1) ≡ figure k
+      last e = ap figure (sym e)
+
+      pick : (b : Bool) → isBetter f (figure (m + 1)) (t .supply) ≡ b → FirstBest (m + 1) (cond b (schedule (m + 1)) t)
       pick true g = record {
-        j = suc n;
-        inside = omega arith;
-        is = e;
-        best = λ k a b other w x.
-            upTo-suc n k b
-            (λ q. good-trans f u v w (better-good f u v g) (h .best k a q other w x))
-            (λ q. let y : schedule (suc n) ≡ Found other w = rw (← q) x in good-same f (cc));
-        first = λ k a b other x. upTo-suc n k b (λ q. absurd (better-only f u v g (h .best k a q other u x))) (λ q. omega arith);
+        j = m + 1;
+        inside = (omega arith, omega arith);
+        is = refl;
+        best = λ k a b. up-to-suc m k b (λ x. good-trans f _ _ _ (better-good f _ _ g) (h .best k a x)) (λ x. good-same f (last x));
+        first = λ k a b e. up-to-suc m k b (λ x. absurd (better-only f _ _ g (good-trans f _ _ _ (h .best k a x) (good-same f e)))) (λ x. omega arith);
       }
       pick false g = record {
         j = h .j;
-        inside = omega (arith, h .inside);
+        inside = (h .inside .0, omega (arith, h .inside .1));
         is = h .is;
-        best = λ k a b other w x.
-            upTo-suc n k b
-            (λ q. h .best k a q other w x)
-            (λ q. let y : schedule (suc n) ≡ Found other w = rw (← q) x in let z : u ≡ w = cc in good-trans f v u w (not-better f u v g) (good-same f z));
-        first = λ k a b other x. upTo-suc n k b (λ q. h .first k a q other x) (λ q. omega (arith, h .inside));
+        best = λ k a b. up-to-suc m k b (λ x. h .best k a x) (λ x. good-trans f _ _ _ (not-better f _ _ g) (good-same f (last x)));
+        first = λ k a b e. up-to-suc m k b (λ x. h .first k a x e) (λ x. omega (arith, h .inside .1));
       }
 
-  best-up-to : (n : ℕ) → BestUpTo n (takenUpTo f schedule n)
-  unfolding takenUpTo NoneUpTo
-  best-up-to zero = (refl, λ k a b other w x. absurd (omega arith))
-  best-up-to (suc n) = step n (takenUpTo f schedule n) (schedule (suc n)) refl (best-up-to n)
+  -- what is taken up to k, and up to one more
+  pub taken-first : takenFrom f schedule from (from - from) ≡ schedule from
+  unfolding takenFrom
+  taken-first = let e : from - from ≡ 0 = omega arith in rw e
 
+  pub taken-next : (k : ℕ) → from ≤ k → takenFrom f schedule from (k + 1 - from) ≡ betterOf f (takenFrom f schedule from (k - from)) (schedule (k + 1))
+  unfolding takenFrom
+  taken-next k h =
+      let e : k + 1 - from ≡ suc (k - from) = omega arith in
+      let d : from + suc (k - from) ≡ k + 1 = omega arith in
+      rw e (ap (λ (x : ℕ). betterOf f (takenFrom f schedule from (k - from)) (schedule x)) d)
+
+  best-from : (n : ℕ) → FirstBest (from + n) (takenFrom f schedule from n)
+  unfolding takenFrom
+  best-from zero = record {
+    j = from;
+    inside = (omega arith, omega arith);
+    is = refl;
+    best = λ k a b. let e : from ≡ k = omega arith in good-same f (ap figure e);
+    first = λ k a b e. a;
+  }
+  best-from (suc n) =
+      let e : from + suc n ≡ from + n + 1 = omega arith in
+      rw e (step (from + n) (takenFrom f schedule from n) (omega arith) (best-from n))
+
+-- what is taken, against every k
 module _ (s : Spec) (q : Rates) (n : Known s q) (f : Family) where
-  -- what is taken, against every k
-  abbrev pub TakenOf : Scheduled → Type 0
-  TakenOf (Refused m) = (m ≡ 8) × ((k : ℕ) (other : Plan) (w : ℕ) → scheduleFor f s k ≡ Found other w → ⊥)
-  TakenOf (Found plan v) = BestOfAll f s plan v
-
-  some : (k : ℕ) (other : Plan) (w : ℕ) → scheduleFor f s k ≡ Found other w → 1 ≤ k
-  some k other w x = in-range s q n f k (found-at f s q k other w (n .both) x .at .there) .some
-
-  below : (k : ℕ) (other : Plan) (w : ℕ) → scheduleFor f s k ≡ Found other w → k ≤ lastCount f q
-  below k other w x = exists-count s q n f k (found-at f s q k other w (n .both) x .at .there)
-
-  pub taken-best : TakenOf (taken f s q)
-  unfolding taken NoneUpTo
-  taken-best = all (takenUpTo f (scheduleFor f s) (lastCount f q)) (best-up-to f (scheduleFor f s) (lastCount f q))
-    where
-      all : (t : Scheduled) → BestUpTo f (scheduleFor f s) (lastCount f q) t → TakenOf t
-      all (Refused m) h = (h .0, λ k other w x. h .1 k (some k other w x) (below k other w x) other w x)
-      all (Found plan v) h =
-          let c : plan .count ≡ h .j = found-at f s q (h .j) plan v (n .both) (h .is) .at .count in
-          record {
-            schedule = ap (scheduleFor f s) c ∙ h .is;
-            best = λ k other w x. h .best k (some k other w x) (below k other w x) other w x;
-            first = λ k other x. rw c (h .first k (some k other v x) (below k other v x) other x);
-          }
+  pub taken-best : firstCount f s q ≤ lastCount f s q → BestOfAll f s (taken f s q .plan) (taken f s q .supply)
+  unfolding taken scheduleWith
+  taken-best some =
+      let first = firstCount f s q in
+      let last = lastCount f s q in
+      let t = takenFrom f (scheduleWith f s q) first (last - first) in
+      let e : first + (last - first) ≡ last = omega arith in
+      let h : FirstBest f (scheduleWith f s q) first last t = rw e at (best-from f (scheduleWith f s q) first (last - first)) in
+      let there = exists-iff s q n f (h .j) .1 (h .inside) in
+      let c : t .plan .count ≡ h .j = ap (λ (x : Taken). x .plan .count) (sym (h .is)) ∙ plan-count f s q (h .j) in
+      record {
+        schedule = ap (scheduleFor f s) c ∙ some-at f s q (h .j) n there ∙ ap (λ (x : Taken). Found (x .plan) (x .supply)) (h .is);
+        best = λ k other w x. let y = found-at f s q k other w (n .both) x in
+            let i = exists-iff s q n f k .0 (y .at .there) in
+            rw (← y .at .figure, ← y .at .is) (h .best k (i .0) (i .1));
+        first = λ k other x. let y = found-at f s q k other (t .supply) (n .both) x in
+            let i = exists-iff s q n f k .0 (y .at .there) in
+            rw c (h .first k (i .0) (i .1) (ap (supplyFigure f q) (y .at .is) ∙ y .at .figure));
+      }

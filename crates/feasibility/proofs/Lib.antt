@@ -1,5 +1,6 @@
-pub mod Taking
+pub mod Counts
 pub mod Best
 pub mod Obeying
+pub mod Needed
 pub mod Outcomes
 pub mod Theorems

@@ -1,70 +1,87 @@
 -- The theorems of specs/Statements.antt, and what the demands' page says of the test.
 use Prim.Native.Nat.{ℕ, _≤_}
 use native.Mathlib.Omega.{arith}
-use mathlib.Core.Path.{_≡_, refl, _∙_}
-use mathlib.Core.Logic.{_↔_, ⊎-elim}
-use mathlib.Core.Bool.{true}
-use borrow.Author.Tests.{le-leb}
+use mathlib.Core.Path.{_≡_, refl, sym, _∙_}
+use mathlib.Core.Logic.{_↔_, _⊎_, inl, inr, ⊎-elim}
+use mathlib.Core.Bool.{true, false}
 use Rattle.spec.specs.declared.Spec.{Spec}
 use Rattle.spec.specs.declared.Rates.{Rates}
 use Rattle.spec.specs.declared.BothRates.{BothRates}
 use Rattle.spec.specs.declared.BothRates.the-variants.{Both, Refused as NoRates}
-use Rattle.spec.specs.Rates.{HasTwoRanges, started, ifRates}
-use Rattle.spec.proofs.GoingOn.{started-both, rates-tell-25}
+use Rattle.spec.specs.Rates.{HasTwoRanges, bothRates, started, ifRates}
+use Rattle.spec.proofs.GoingOn.{started-both, started-numbers, rates-tell-25}
 use Rattle.spec.proofs.KnownRates.{known}
 use Rattle.schedule.specs.Rules.{Obeys}
-use Rattle.numbers.proofs.Cases.{lt-cases}
 use Rattle.plan.specs.declared.Plan.{Plan}
 use Rattle.plan.specs.Plans.{proper, run}
 use Rattle.consistency.specs.declared.Consistency.{Consistency}
 use Rattle.consistency.specs.declared.Consistency.the-variants.{Consistent, Inconsistent as FailsCondition, Refused as NotJudged}
 use Rattle.consistency.specs.Consistency.{consistencyOf}
 use Rattle.consistency.proofs.Conditions.{one-range-no-number}
-use Rattle.families.specs.declared.Family.the-variants.{MinimumDemand}
 use Rattle.families.proofs.Schedules.{found-at, some-at}
 use Rattle.feasibility.specs.declared.Tested.the-variants.{Passed, Refused}
-use Rattle.feasibility.specs.Test.{familyOf, taken, testTaken, testConsistent, testOf}
-use Rattle.feasibility.specs.Statements.{TestPasses, TestNotPassed, TestNoneExists, NoneOnlyBelow}
-use Rattle.feasibility.proofs.Taking.{firstWith}
+use Rattle.feasibility.specs.Test.{familyOf, taken, figurePasses, testConsistent, testOf, BestOfAll}
+use Rattle.feasibility.specs.Statements.{TestPasses, TestNotPassed, TestFinds, CountsExact}
+use Rattle.feasibility.proofs.Counts.{exists-iff}
 use Rattle.feasibility.proofs.Obeying.{obeys}
-use Rattle.feasibility.proofs.Outcomes.{enough-reports, tests-taken, begun, consistent, best-taken, unique, passed, not-passed, refusals-two, none-exists, none-taken, refused}
+use Rattle.feasibility.proofs.Outcomes.{passes-or-9, unique, tests-taken, begun, consistent, best-taken, refused}
 
 pub test-passes : TestPasses
-unfolding testTaken
 test-passes s q plan v e = (
   λ x.
       let j = tests-taken s q e (Passed plan v) x (λ c y. let z : _≡_ {A = ℕ} 0 1 = cc in omega arith) (λ y. let z : _≡_ {A = ℕ} 0 1 = cc in omega arith) in
-      let start = begun s q e (j .0) in
-      let r = passed s q e start plan v (taken (familyOf q) s q) (best-taken s q e start) (j .1) in
-      (j .0, r .0, r .1),
+      ⊎-elim
+      (λ (is, ok).
+      let same = sym is ∙ j .1 in
+      let p : taken (familyOf q) s q .plan ≡ plan = cc in
+      let w : taken (familyOf q) s q .supply ≡ v = cc in
+      (j .0, rw (← p, ← w) (best-taken s q e (j .0)), rw (← w) ok))
+      (λ (is, failed). absurd (let same = sym is ∙ j .1 in let z : _≡_ {A = ℕ} 0 1 = cc in omega arith))
+      (passes-or-9 (familyOf q) q (taken (familyOf q) s q)),
   λ h.
-      let start = begun s q e (h .0) in
-      rw (consistent s q e (h .0), unique s q e start plan v (taken (familyOf q) s q) (best-taken s q e start) (h .1), h .2),
+      let same = unique (familyOf q) s (best-taken s q e (h .0)) (h .1) in
+      let p : taken (familyOf q) s q .plan ≡ plan = cc in
+      let w : taken (familyOf q) s q .supply ≡ v = cc in
+      ⊎-elim
+      (λ (is, ok). consistent s q e (h .0) ∙ is ∙ cc)
+      (λ (is, failed). absurd (let same : true ≡ false = cc in let z : _≡_ {A = ℕ} 0 1 = cc in omega arith))
+      (passes-or-9 (familyOf q) q (taken (familyOf q) s q)),
 )
 
 pub test-not-passed : TestNotPassed
-unfolding testTaken
 test-not-passed s q e = (
   λ x.
       let j = refused s q e 9 (omega arith) (omega arith) x in
-      let start = begun s q e (j .0) in
-      (j .0, not-passed s q e start (taken (familyOf q) s q) (best-taken s q e start) (j .1)),
-  λ h.
-      let start = begun s q e (h .0) in
-      let b = h .1 in
-      rw (consistent s q e (h .0), unique s q e start (b .0) (b .1) (taken (familyOf q) s q) (best-taken s q e start) (b .2), b .3),
+      ⊎-elim
+      (λ (is, ok). absurd (let same = sym is ∙ j .1 in let z : _≡_ {A = ℕ} 0 1 = cc in omega arith))
+      (λ (is, failed). (j .0, (taken (familyOf q) s q .plan, taken (familyOf q) s q .supply, best-taken s q e (j .0), failed)))
+      (passes-or-9 (familyOf q) q (taken (familyOf q) s q)),
+  λ (h, (plan, v, best, fails)).
+      let same = unique (familyOf q) s (best-taken s q e h) best in
+      let w : taken (familyOf q) s q .supply ≡ v = cc in
+      ⊎-elim
+      (λ (is, ok). absurd (let same : true ≡ false = cc in let z : _≡_ {A = ℕ} 0 1 = cc in omega arith))
+      (λ (is, failed). consistent s q e h ∙ is)
+      (passes-or-9 (familyOf q) q (taken (familyOf q) s q)),
 )
 
-pub test-none-exists : TestNoneExists
-test-none-exists s q e = (
-  λ x.
-      let j = refused s q e 8 (omega arith) (omega arith) x in
-      let start = begun s q e (j .0) in
-      (j .0, none-exists s q e start (taken (familyOf q) s q) (best-taken s q e start) (j .1)),
-  λ h.
-      let start = begun s q e (h .0) in
-      consistent s q e (h .0) ∙ none-taken s q e start (taken (familyOf q) s q) (best-taken s q e start) (h .1),
+pub test-finds : TestFinds
+test-finds s q e h = (
+  taken (familyOf q) s q .plan,
+  taken (familyOf q) s q .supply,
+  best-taken s q e h,
+  ⊎-elim
+      (λ (is, ok). inl (consistent s q e h ∙ is))
+      (λ (is, failed). inr (consistent s q e h ∙ is))
+      (passes-or-9 (familyOf q) q (taken (familyOf q) s q)),
 )
+
+pub counts-exact : CountsExact
+counts-exact s q f k start =
+    let n = known s q start in (
+      λ (plan, v, x). exists-iff s q n f k .0 (found-at f s q k plan v (n .both) x .at .there),
+      λ h. (_, _, some-at f s q k n (exists-iff s q n f k .1 h)),
+    )
 
 -- The plan that the test passes is proper, and its endless run obeys the four rules.
 pub test-sound : (s : Spec) (plan : Plan) (v : ℕ) → testOf s ≡ Passed plan v → (proper plan ≡ true) × Obeys s (run plan)
@@ -79,30 +96,28 @@ test-sound s plan v x = pick (started s) refl x
         let g = found-at (familyOf q) s q (plan .count) plan v both (h .1 .schedule) in
         (g .ok, obeys s q (plan .count) plan v (familyOf q) g (h .2))
 
-pub none-only-below : NoneOnlyBelow
-unfolding familyOf
-none-only-below s q e x = ⊎-elim (λ h. h) (λ h. absurd (never h)) (lt-cases (q .r) (q .p))
+-- Once both rates are there, no number but 9 is told.
+only-9 : (s : Spec) (q : Rates) → started s ≡ Both q → (n : ℕ) (c : Consistency) → consistencyOf s ≡ c → testConsistent c s q ≡ Refused n → n ≡ 9
+unfolding testConsistent
+only-9 s q start n Consistent h x =
+    ⊎-elim
+    (λ (is, ok). absurd (let same = sym is ∙ x in let z : _≡_ {A = ℕ} 0 1 = cc in omega arith))
+    (λ (is, failed). let same = sym is ∙ x in let z : _≡_ {A = ℕ} 9 n = cc in sym z)
+    (passes-or-9 (familyOf q) q (taken (familyOf q) s q))
+only-9 s q start n (FailsCondition c) h x = absurd (let z : _≡_ {A = ℕ} 0 1 = cc in omega arith)
+only-9 s q start n (NotJudged m) h x = absurd (one-range-no-number s (started-both s q start .0) m h)
+
+pub test-numbers : (s : Spec) (n : ℕ) → testOf s ≡ Refused n → ((3 ≤ n) × (n ≤ 5)) ⊎ ((n ≡ 9) ⊎ ((24 ≤ n) × (n ≤ 25)))
+unfolding testOf
+test-numbers s n x = pick (started s) refl x
   where
-    never : q .p ≤ q .r → ⊥
-    never h =
-        let none = test-none-exists s q e .0 x in
-        let n = known s q (begun s q e (none .0)) in
-        let k = firstWith MinimumDemand s q in
-        let some = some-at MinimumDemand s q k n (enough-reports s q n (none .0)) in
-        let same = rw (le-leb _ _ h) at (none .1 k) in
-        let z : _≡_ {A = ℕ} 0 1 = cc in
-        omega arith
+    pick : (r : BothRates) → started s ≡ r → ifRates r (λ q. testConsistent (consistencyOf s) s q) Refused ≡ Refused n → ((3 ≤ n) × (n ≤ 5)) ⊎ ((n ≡ 9) ⊎ ((24 ≤ n) × (n ≤ 25)))
+    pick (NoRates m) e y = let z : m ≡ n = cc in ⊎-elim (λ h. inl (omega arith, omega arith)) (λ h. inr (inr (omega arith, omega arith))) (started-numbers s m e)
+    pick (Both q) e y = inr (inl (only-9 s q e n (consistencyOf s) refl y))
 
 -- 25 is given exactly to an accepted specification with a second range.
-no-25 : (s : Spec) (q : Rates) → started s ≡ Both q → (c : Consistency) → consistencyOf s ≡ c → ¬ (testConsistent c s q ≡ Refused 25)
-unfolding testConsistent
-no-25 s q start Consistent h x =
-    let e = started-both s q start .1 in
-    ⊎-elim (λ z. omega arith) (λ z. omega arith) (refusals-two s q e start 25 (taken (familyOf q) s q) (best-taken s q e start) x)
-no-25 s q start (FailsCondition c) h x = let z : _≡_ {A = ℕ} 0 1 = cc in omega arith
-no-25 s q start (NotJudged n) h x = one-range-no-number s (started-both s q start .0) n h
-
 pub test-25 : (s : Spec) → (testOf s ≡ Refused 25) ↔ HasTwoRanges s
 unfolding testOf
 test-25 s =
-    rates-tell-25 s (λ q. testConsistent (consistencyOf s) s q) Refused (λ n e. cc) (λ q start. no-25 s q start (consistencyOf s) refl)
+    rates-tell-25 s (λ q. testConsistent (consistencyOf s) s q) Refused (λ n e. cc)
+    (λ q start x. let z = only-9 s q start 25 (consistencyOf s) refl x in omega arith)

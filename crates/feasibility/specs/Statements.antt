@@ -1,20 +1,21 @@
 -- What the test answers, exactly. Each is proved in proofs/Theorems.antt, beside what the demands' page says of the test. Lemma 6 and
 -- Corollary 2 of document 000 are false and not used.
-use Prim.Native.Nat.{ℕ, _<_}
+use Prim.Native.Nat.{ℕ, _≤_}
 use mathlib.Core.Path.{_≡_}
-use mathlib.Core.Logic.{_↔_}
+use mathlib.Core.Logic.{_↔_, _⊎_}
 use mathlib.Core.Bool.{true, false}
 use Rattle.spec.specs.declared.Spec.{Spec}
 use Rattle.spec.specs.declared.Rates.{Rates}
 use Rattle.spec.specs.declared.BothRates.the-variants.{Both}
-use Rattle.spec.specs.Rates.{bothRates}
+use Rattle.spec.specs.Rates.{bothRates, started}
 use Rattle.plan.specs.declared.Plan.{Plan}
 use Rattle.consistency.specs.declared.Consistency.the-variants.{Consistent}
 use Rattle.consistency.specs.Consistency.{consistencyOf}
-use Rattle.families.specs.declared.Scheduled.the-variants.{Refused as NoneFound}
+use Rattle.families.specs.declared.Family.{Family}
+use Rattle.families.specs.declared.Scheduled.the-variants.{Found}
 use Rattle.families.specs.Families.{scheduleFor}
 use Rattle.feasibility.specs.declared.Tested.the-variants.{Passed, Refused}
-use Rattle.feasibility.specs.Test.{familyOf, figurePasses, testOf, BestOfAll}
+use Rattle.feasibility.specs.Test.{familyOf, firstCount, lastCount, figurePasses, testOf, BestOfAll}
 
 -- The test passes exactly the best of all k of a consistent specification, where its figure passes.
 abbrev pub TestPasses : Type 0
@@ -31,12 +32,16 @@ TestNotPassed =
     ↔ ((consistencyOf s ≡ Consistent)
     × ((plan : Plan) × (v : ℕ) × BestOfAll (familyOf q) s plan v × (figurePasses (familyOf q) q v ≡ false)))
 
--- 8 is given exactly where no k at all has a schedule.
-abbrev pub TestNoneExists : Type 0
-TestNoneExists =
-    (s : Spec) (q : Rates) → bothRates s ≡ Both q
-    → (testOf s ≡ Refused 8) ↔ ((consistencyOf s ≡ Consistent) × ((k : ℕ) → scheduleFor (familyOf q) s k ≡ NoneFound 6))
+-- Document 02, Req 07: "under the new condition the test finds some k for every consistent specification with both rates": there is a best
+-- of all k, and the test passes it or gives 9.
+abbrev pub TestFinds : Type 0
+TestFinds =
+    (s : Spec) (q : Rates) → bothRates s ≡ Both q → consistencyOf s ≡ Consistent
+    → (plan : Plan) × (v : ℕ) × BestOfAll (familyOf q) s plan v × ((testOf s ≡ Passed plan v) ⊎ (testOf s ≡ Refused 9))
 
--- It comes only of R below P: by condition 5 a consistent specification has a minimum demand schedule.
-abbrev pub NoneOnlyBelow : Type 0
-NoneOnlyBelow = (s : Spec) (q : Rates) → bothRates s ≡ Both q → testOf s ≡ Refused 8 → q .r < q .p
+-- The k with a schedule are just those that the test looks at.
+abbrev pub CountsExact : Type 0
+CountsExact =
+    (s : Spec) (q : Rates) (f : Family) (k : ℕ) → started s ≡ Both q
+    → ((plan : Plan) × (v : ℕ) × (scheduleFor f s k ≡ Found plan v))
+    ↔ ((firstCount f s q ≤ k) × (k ≤ lastCount f s q))

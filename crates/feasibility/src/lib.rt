@@ -1,22 +1,20 @@
 // The test (document 01, "The test"): the family's schedule with the best supply figure over all k, and whether it passes. Refusals 3, 4,
-// 24, 25, 5 and 7 to 9.
+// 24, 25, 5, 7 and 9.
 use consistency::Condition;
 use consistency::Consistency;
 use families::Family;
-use families::Scheduled;
 use numbers::ceil_div;
 use plan::Plan;
 use spec::BothRates;
 use spec::Rates;
 use spec::Spec;
 ghost use mathlib.Core.Path.{_≡_};
-ghost use mathlib.Core.Logic.{_↔_};
 ghost use mathlib.Core.Bool.{true};
-ghost use Prim.Native.Nat.{ℕ, _≤_};
+ghost use Prim.Native.Nat.{_≤_};
 ghost use Rattle.spec.specs.declared.BothRates.the-variants.{Both};
 ghost use Rattle.spec.specs.Rates.{started};
 ghost use Rattle.families.specs.Families.{exists};
-ghost use Rattle.feasibility.specs.Test.{familyOf, isBetter, betterOf, taken, figurePasses, testTaken, testOf};
+ghost use Rattle.feasibility.specs.Test.{familyOf, firstCount, lastCount, scheduleWith, isBetter, betterOf, taken, figurePasses, testTaken, testOf};
 
 // The plan that the test passes with its supply figure, the condition that failed first, or the number of another refusal.
 pub enum Tested {
@@ -46,54 +44,66 @@ fn is_better(f: Family, v: u32, w: u32) -> bool
     }
 }
 
+// A schedule with its supply figure: one that there is, so that a search which begins with it needs no answer for none.
+struct Taken {
+    plan: Plan,
+    supply: u32,
+}
+
+// The schedule with k reports, where there is one.
+fn schedule_with(f: Family, s: Spec, q: Rates, k: u16) -> Taken
+    requires { ⌜ (started s ≡ Both q) × (exists f s q k ≡ true) ⌝ }
+    ensures { λ r. ⌜ r ≡ scheduleWith f s q k ⌝ }
+{
+    let plan = families::plan_for(f, s, q, k);
+    let supply = families::figure_of(f, q, plan);
+    Taken { plan, supply }
+}
+
 // The schedule with the better figure; of equals the one taken so far.
-fn better_of(f: Family, best: Scheduled, next: Scheduled) -> Scheduled
+fn better_of(f: Family, best: Taken, next: Taken) -> Taken
     ensures { λ r. ⌜ r ≡ betterOf f best next ⌝ }
 {
-    match next {
-        Scheduled::Refused(_) => best,
-        Scheduled::Found { plan: _, supply: v } => match best {
-            Scheduled::Refused(_) => next,
-            Scheduled::Found { plan: _, supply: w } => if is_better(f, v, w) { next } else { best },
-        },
+    if is_better(f, next.supply, best.supply) {
+        next
+    } else {
+        best
     }
 }
 
-// The numbers of reports with which the family has a schedule: from `first` to `last`, none where `last` is below `first`.
-struct Counts {
-    first: u32,
-    last: u32,
-}
-
-fn counts_of(f: Family, s: Spec, q: Rates) -> Counts
+// The first and the last number of reports with which the family has a schedule.
+fn first_count(f: Family, s: Spec, q: Rates) -> u16
     requires { ⌜ started s ≡ Both q ⌝ }
-    ensures exactly { λ r. ⌜ ((k : ℕ) → (exists f s q k ≡ true) ↔ ((r .first ≤ k) × (k ≤ r .last))) ⌝ }
-    ensures few { λ r. ⌜ r .last ≤ 65535 ⌝ }
+    ensures { λ r. ⌜ r ≡ firstCount f s q ⌝ }
 {
     match f {
-        Family::MinimumDemand => Counts {
-            first: ceil_div(q.l as u64, s.dmax as u64) as u32,
-            last: q.p as u32 / s.smin as u32,
-        },
-        Family::MaximumSupply => Counts {
-            first: ceil_div(q.r as u64, s.smax as u64) as u32,
-            last: q.b as u32 / s.dmin as u32,
-        },
+        Family::MinimumDemand => ceil_div(q.l as u64, s.dmax as u64) as u16,
+        Family::MaximumSupply => ceil_div(q.r as u64, s.smax as u64) as u16,
     }
 }
 
-// The schedule with the best figure over all k, the smaller k of equals. Each k with a schedule is looked at once.
-fn best_schedule(f: Family, s: Spec, q: Rates) -> Scheduled
+fn last_count(f: Family, s: Spec, q: Rates) -> u16
     requires { ⌜ started s ≡ Both q ⌝ }
+    ensures { λ r. ⌜ r ≡ lastCount f s q ⌝ }
+{
+    match f {
+        Family::MinimumDemand => q.p / s.smin,
+        Family::MaximumSupply => q.b / s.dmin,
+    }
+}
+
+// The schedule with the best figure over all k, the smaller k of equals. Each k with a schedule is looked at once, from the first on: of a
+// consistent specification that has one.
+fn best_schedule(f: Family, s: Spec, q: Rates) -> Taken
+    requires { ⌜ (started s ≡ Both q) × (firstCount f s q ≤ lastCount f s q) ⌝ }
     ensures { λ r. ⌜ r ≡ taken f s q ⌝ }
 {
-    let counts = counts_of(f, s, q);
-    let last = counts.last;
-    let mut k = counts.first;
-    let mut best = Scheduled::Refused(spec::refusal::NO_COUNT);
-    while k <= last {
-        best = better_of(f, best, families::schedule_for(f, s, k));
+    let last = last_count(f, s, q);
+    let mut k = first_count(f, s, q);
+    let mut best = schedule_with(f, s, q, k);
+    while k < last {
         k = k + 1;
+        best = better_of(f, best, schedule_with(f, s, q, k));
     }
     best
 }
@@ -107,16 +117,15 @@ fn figure_passes(f: Family, q: Rates, v: u32) -> bool
     }
 }
 
-fn test_taken(f: Family, q: Rates, best: Scheduled) -> Tested
+fn test_taken(f: Family, q: Rates, best: Taken) -> Tested
     ensures { λ r. ⌜ r ≡ testTaken f q best ⌝ }
 {
-    match best {
-        Scheduled::Refused(n) => Tested::Refused(n),
-        Scheduled::Found { plan, supply } => if figure_passes(f, q, supply) {
-            Tested::Passed { plan, supply }
-        } else {
-            Tested::Refused(spec::refusal::NOT_PASSED)
-        },
+    let plan = best.plan;
+    let supply = best.supply;
+    if figure_passes(f, q, supply) {
+        Tested::Passed { plan, supply }
+    } else {
+        Tested::Refused(spec::refusal::NOT_PASSED)
     }
 }
 

@@ -1,5 +1,6 @@
 -- Document 01, "Samples": those marked ★ as one table, and one proof that the definitions give every value that it prints. The sizes of
--- B with 15 are those of document 02, Req 02, and its offers those of Req 03; the way back from minutes, of Req 05, is ours.
+-- B with 15 are those of document 02, Req 02, and its offers those of Req 03; what F gets is that of Req 07; the way back from minutes, of
+-- Req 05, and F with B = 15 are ours.
 use Prim.Native.Nat.{ℕ, _+_, _*_}
 use mathlib.Core.Path.{_≡_, refl}
 use mathlib.Core.List.{List, [], _∷_, _++_}
@@ -29,7 +30,7 @@ use Rattle.families.specs.declared.Family.the-variants.{MinimumDemand, MaximumS
 use Rattle.families.specs.declared.Scheduled.{Scheduled}
 use Rattle.families.specs.declared.Scheduled.the-variants.{Found as ScheduleOf, Refused as NotScheduled}
 use Rattle.families.specs.Families.{scheduleFor, scheduled, exists, planFor, supplyFigure, required, available, least}
-use Rattle.feasibility.specs.Test.{testOf, testConsistent, testTaken, figurePasses, taken, lastCount, takenUpTo, betterOf, isBetter, familyOf}
+use Rattle.feasibility.specs.Test.{testOf, testConsistent, testTaken, figurePasses, taken, firstCount, lastCount, scheduleWith, takenFrom, betterOf, isBetter, familyOf}
 use Rattle.even.specs.declared.EvenPlan.{EvenPlan}
 use Rattle.even.specs.declared.EvenPlan.the-variants.{Found, Refused}
 use Rattle.even.specs.Even.{evenPlan, planOr10, evenPlanAt, evenGap, largest, fits, supplyFits, demandFits, totalOf, countAt}
@@ -51,11 +52,13 @@ pub record Offer : Type 0 where
 -- what the document says of a specification; a report is its minute and its size
 pub data Claim : Type 0 where
   consistencyGets : (number : ℕ) → Claim
+  consistencyFails : (condition : ℕ) → Claim
   minimumDemand : (k period total required : ℕ) → Claim
   minimumDemandReports : (k : ℕ) (minutes sizes : List ℕ) → Claim
   maximumSupply : (k period total available : ℕ) → Claim
   testPasses : (k period total supply : ℕ) → Claim
   testRefuses : (number : ℕ) → Claim
+  testFails : (condition : ℕ) → Claim
   evenGives : (gap k total : ℕ) → Claim
   evenReports : (minutes sizes : List ℕ) → Claim
   evenRefuses : (number : ℕ) → Claim
@@ -148,11 +151,13 @@ answersAre (a ∷ more) [] = false
 
 claimHolds : Spec → Claim → Bool
 claimHolds s (consistencyGets n) = answerIs (consistencyAnswer (consistencyOf s)) n []
+claimHolds s (consistencyFails c) = answerIs (consistencyAnswer (consistencyOf s)) 7 (c ∷ [])
 claimHolds s (minimumDemand k π δ v) = answerIs (scheduledAnswer (scheduleFor MinimumDemand s k)) 0 (wellFormed ∷ k ∷ π ∷ δ ∷ v ∷ [])
 claimHolds s (minimumDemandReports k minutes sizes) = ofSchedule (scheduleFor MinimumDemand s k) (λ p. reportsAre p 0 minutes sizes)
 claimHolds s (maximumSupply k π δ v) = answerIs (scheduledAnswer (scheduleFor MaximumSupply s k)) 0 (wellFormed ∷ k ∷ π ∷ δ ∷ v ∷ [])
 claimHolds s (testPasses k π δ v) = answerIs (testedAnswer (testOf s)) 0 (wellFormed ∷ k ∷ π ∷ δ ∷ v ∷ [])
 claimHolds s (testRefuses n) = answerIs (testedAnswer (testOf s)) n []
+claimHolds s (testFails c) = answerIs (testedAnswer (testOf s)) 7 (c ∷ [])
 claimHolds s (evenGives g k δ) = answerIs (evenAnswer (evenPlan s)) 0 (even ∷ k ∷ k * g ∷ δ ∷ [])
 claimHolds s (evenReports minutes sizes) = ofEven (evenPlan s) (λ p. reportsAre p 0 minutes sizes)
 claimHolds s (evenRefuses n) = answerIs (evenAnswer (evenPlan s)) n []
@@ -248,8 +253,9 @@ samples =
     ∷ sample 3 5 35 46 10 79 17 158 (maximumSupply 2 79 10 20 ∷ testPasses 2 79 10 20 ∷ evenRefuses 10 ∷ [])
     -- ★E
     ∷ sample 3 10 45 80 10 79 17 159 (maximumSupply 1 79 10 20 ∷ testPasses 1 79 10 20 ∷ [])
-    -- ★F
-    ∷ sample 5 5 4 4 10 10 5 20 (consistencyGets 0 ∷ testRefuses 8 ∷ [])
+    -- ★F, as document 02, Req 07, has it: "Sample F becomes 7 with condition 4"; and with B = 15, which ⌈10/4⌉ reports of 5 just keep
+    ∷ sample 5 5 4 4 10 10 5 20 (consistencyFails 4 ∷ testFails 4 ∷ [])
+    ∷ sample 5 5 4 4 15 10 5 20 (consistencyGets 0 ∷ testPasses 3 12 15 25 ∷ [])
     -- a van of two shifts (document 02, Req 06): samples/shift.spec with its two cycles, of which one has a gap between the ranges; the
     -- same with a second range that touches the first, and with one that starts at smax
     ∷ sampleWith (RangeOf 60 90) 1 10 5 15 22 60 8 90 (
@@ -269,5 +275,5 @@ samplesHold (x ∷ xs) = claimsHold (x .spec) (x .claims) && samplesHold xs
 
 -- Every value of the table is what the definitions compute.
 pub samples-hold : samplesHold samples ≡ true
-unfolding samplesHold samples sample sampleWith cycle offer offered leftIs answersAre claimsHold claimHolds same answerIs reportIs reportsAre wellFormed even minuteIs betweenIs ofSchedule ofEven sameRate sameRange readTo specNumber firstNumber limits order rateLimits rangeLimits rangeOrder startsAbove inRange sizeAllowed gapAllowed topOf readSpec ifNone secondNumber oneRangeNumber started sum minute heldFrom stretch proper run kindRun wellSize wellGap evenFirst evenSize reportOf numberOf betweenOf greatest lastReport firstLeast nearestReport reportsFrom recordsFrom consistencyOf conditionsOf boundsFitRates sizeFitsBudget gapFitsDemand demandFitsDuration fewestReportsFitBudget enoughReportsForDemand supplyCoversDemand whereRate whereRange ceil scheduleFor bothRates ratesFrom scheduled exists planFor supplyFigure required available least testOf testConsistent testTaken figurePasses taken lastCount takenUpTo betterOf isBetter familyOf evenPlan planOr10 evenPlanAt evenGap largest fits supplyFits demandFits totalOf countAt pairGap pairSize cycleRun round checkNumber cycleNumber gapsAllowed sizesAllowed supplyKept demandMet all countedAt tooEarly overBudget noPlace offerNumber after later budgetLeft offerAnswer plainAnswers
+unfolding samplesHold samples sample sampleWith cycle offer offered leftIs answersAre claimsHold claimHolds same answerIs reportIs reportsAre wellFormed even minuteIs betweenIs ofSchedule ofEven sameRate sameRange readTo specNumber firstNumber limits order rateLimits rangeLimits rangeOrder startsAbove inRange sizeAllowed gapAllowed topOf readSpec ifNone secondNumber oneRangeNumber started sum minute heldFrom stretch proper run kindRun wellSize wellGap evenFirst evenSize reportOf numberOf betweenOf greatest lastReport firstLeast nearestReport reportsFrom recordsFrom consistencyOf conditionsOf boundsFitRates sizeFitsBudget gapFitsDemand demandFitsDuration fewestReportsFitBudget enoughReportsForDemand supplyCoversDemand whereRate whereRange ceil scheduleFor bothRates ratesFrom scheduled exists planFor supplyFigure required available least testOf testConsistent testTaken figurePasses taken firstCount lastCount scheduleWith takenFrom betterOf isBetter familyOf evenPlan planOr10 evenPlanAt evenGap largest fits supplyFits demandFits totalOf countAt pairGap pairSize cycleRun round checkNumber cycleNumber gapsAllowed sizesAllowed supplyKept demandMet all countedAt tooEarly overBudget noPlace offerNumber after later budgetLeft offerAnswer plainAnswers
 samples-hold = refl

@@ -1,5 +1,7 @@
 // The marked samples of document 01, run through the functions: what this program prints is compared with the file `stdout`. Crate
 // `samples` has the same samples as a table, with one proof that the definitions give every value.
+use consistency::Condition;
+use consistency::Consistency;
 use even::EvenPlan;
 use families::Family;
 use families::Scheduled;
@@ -126,11 +128,28 @@ fn maximum_supply(s: Spec, k: u32) {
     schedule(families::schedule_for(Family::MaximumSupply, s, k));
 }
 
+// The condition that failed first.
+fn inconsistent(c: Condition) {
+    text(b" inconsistent");
+    number(answers::condition_number(c) as u64);
+    end();
+}
+
 fn consistency(s: Spec) {
     text(b"  consistency");
-    let mut condition = 0;
-    number(answers::consistency_answer(consistency::consistency_of(s), &mut condition) as u64);
-    end();
+    let found = consistency::consistency_of(s);
+    match found {
+        Consistency::Consistent => {
+            number(0);
+            end();
+        }
+        Consistency::Inconsistent(c) => {
+            inconsistent(c);
+        }
+        Consistency::Refused(n) => {
+            refused(n);
+        }
+    }
 }
 
 fn test(s: Spec) {
@@ -143,9 +162,7 @@ fn test(s: Spec) {
             end();
         }
         Tested::Inconsistent(c) => {
-            text(b" inconsistent");
-            number(answers::condition_number(c) as u64);
-            end();
+            inconsistent(c);
         }
         Tested::Refused(n) => {
             refused(n);
@@ -324,6 +341,10 @@ fn samples_e_and_f() {
     let f = sample(5, 5, 4, 4, 10, 10, 5, 20);
     consistency(f);
     test(f);
+    text(b"F with B = 15\n");
+    let kept = sample(5, 5, 4, 4, 15, 10, 5, 20);
+    consistency(kept);
+    test(kept);
 }
 
 // A van of two shifts: gaps 5 to 15, or those of the second range.

@@ -53,6 +53,16 @@ number-few s = pick (limits s) (order s) (startsAbove (s .second) (s .smax))
     pick true false c = inl (omega arith)
     pick false b c = inl (omega arith)
 
+number-low : (s : Spec) → (specNumber s ≡ 0) ⊎ (3 ≤ specNumber s)
+unfolding specNumber firstNumber
+number-low s = pick (limits s) (order s) (startsAbove (s .second) (s .smax))
+  where
+    pick : (a b c : Bool) → (firstNumber a b c ≡ 0) ⊎ (3 ≤ firstNumber a b c)
+    pick true true true = inl refl
+    pick true true false = inr (omega arith)
+    pick true false c = inr (omega arith)
+    pick false b c = inr (omega arith)
+
 -- by whether there is a second range
 second-or : (x : Range) → ((x ≡ NoRange) × (secondNumber x ≡ 0)) ⊎ ((¬ (x ≡ NoRange)) × (secondNumber x ≡ 25))
 unfolding secondNumber
@@ -90,11 +100,13 @@ module _ (s : Spec) where
     λ h. of-accepted (h .0) ∙ ⊎-elim (λ k. absurd (h .1 (k .0))) (λ k. k .1) (second-or (s .second)),
   )
 
-  pub one-range-few : (oneRangeNumber s ≤ 4) ⊎ (24 ≤ oneRangeNumber s)
-  one-range-few =
+  pub one-range-few : ¬ HasOneRange s → ((3 ≤ oneRangeNumber s) × (oneRangeNumber s ≤ 4)) ⊎ ((24 ≤ oneRangeNumber s) × (oneRangeNumber s ≤ 25))
+  one-range-few some =
       ⊎-elim
-      (λ a. ⊎-elim (λ h. inl (omega (arith, of-accepted a, h .1))) (λ h. inr (omega (arith, of-accepted a, h .1))) (second-or (s .second)))
-      (λ a. ⊎-elim (λ h. inl (omega (arith, of-refused a))) (λ h. inr (omega (arith, of-refused a))) (number-few s))
+      (λ a. ⊎-elim (λ h. absurd (some (of-accepted a ∙ h .1))) (λ h. inr (omega (arith, of-accepted a, h .1))) (second-or (s .second)))
+      (λ a.
+      let low : 3 ≤ specNumber s = ⊎-elim (λ z. absurd (a z)) (λ h. h) (number-low s) in
+      ⊎-elim (λ h. inl (omega (arith, of-refused a))) (λ h. inr (omega (arith, of-refused a))) (number-few s))
       (none-or (specNumber s))
 
   -- so an operation that begins so and has no 25 of its own tells 25 exactly there
@@ -141,6 +153,17 @@ module _ (s : Spec) (q : Rates) where
   pub started-at : HasOneRange s → bothRates s ≡ Both q → started s ≡ Both q
   unfolding started
   started-at h e = goes-on (oneRangeNumber s) (bothRates s) Refused h ∙ e
+
+-- the numbers that it may refuse with: 3 to 5, 24 and 25
+pub started-numbers : (s : Spec) (n : ℕ) → started s ≡ Refused n → ((3 ≤ n) × (n ≤ 5)) ⊎ ((24 ≤ n) × (n ≤ 25))
+unfolding started
+started-numbers s n e =
+    ⊎-elim
+    (λ z. inl (omega (arith, rate-absent s n (sym (goes-on (oneRangeNumber s) (bothRates s) Refused z) ∙ e))))
+    (λ z.
+    let is : oneRangeNumber s ≡ n = let x = sym (stops (oneRangeNumber s) (bothRates s) Refused z) ∙ e in cc in
+    ⊎-elim (λ h. inl (omega arith, omega arith)) (λ h. inr (omega arith, omega arith)) (one-range-few s z))
+    (none-or (oneRangeNumber s))
 
 -- what begins with both rates, and has no 25 of its own, tells 25 exactly there too
 pub rates-tell-25 : (s : Spec) {A : Type 0} (goOn : Rates → A) (tell : ℕ → A) → ((n : ℕ) → tell n ≡ tell 25 → n ≡ 25)

@@ -11,7 +11,8 @@ pub const ORDER: u32 = 4;
 
 pub const RANGES: u32 = 24;
 
-// Consistency, schedules for k reports, the test; each begins with TWO_RANGES, after the numbers above.
+// Consistency, schedules for k reports, the test; each begins with TWO_RANGES, after the numbers above. (8 is no longer given, and is not
+// used again.)
 pub const TWO_RANGES: u32 = 25;
 
 pub const RATE_ABSENT: u32 = 5;
@@ -19,8 +20,6 @@ pub const RATE_ABSENT: u32 = 5;
 pub const NO_SCHEDULE: u32 = 6;
 
 pub const INCONSISTENT: u32 = 7;
-
-pub const NO_COUNT: u32 = 8;
 
 pub const NOT_PASSED: u32 = 9;
 

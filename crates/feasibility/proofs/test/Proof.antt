@@ -1,6 +1,8 @@
--- The refusals in their order: 3, 4, 24, 25 and 5 by `started`, 7 with the condition; then what is taken is tested. Each return rewrites
--- the definition by what the calls before it gave.
+-- The refusals in their order: 3, 4, 24, 25 and 5 by `started`, 7 with the condition; then what is taken is tested, and by `some-count`
+-- there is a schedule to take. Each return rewrites the definition by what the calls before it gave.
 use mathlib.Core.Path.{sym, _∙_}
+use Rattle.spec.proofs.KnownRates.{known}
+use Rattle.feasibility.proofs.Counts.{some-count}
 use Rattle.feasibility.specs.Test.{testConsistent, testOf}
 use borrow.Author.Needs.{needs}
 use Rattle.feasibility.proofs.test.Statement.{statement}
@@ -35,8 +37,11 @@ family-of-requires c κs = search needs
 
 best-schedule-requires : tie.Need-best-schedule-requires
 best-schedule-requires c κs =
-    let there = c .before .before .before .before .before in
-    sym (there .before .before .started .ensures) ∙ there .start .given .1
+    let told = c .before in
+    let there = told .before .before .before .before in
+    let begun = sym (there .before .before .started .ensures) ∙ there .start .given .1 in
+    let consistent = sym (told .before .before .consistency-of .ensures) ∙ told .enum-told2 .given .1 in
+    (begun, some-count _ _ (known _ _ begun) consistent _)
 
 test-taken-requires : tie.Need-test-taken-requires
 test-taken-requires c κs = search needs
