@@ -77,7 +77,7 @@ enum maxeltu_refusal {
     MAXELTU_RATE_ABSENT = 5,      /* the supply rate or the demand rate is absent, and both are needed */
     MAXELTU_NO_SCHEDULE = 6,      /* no schedule with this k */
     MAXELTU_INCONSISTENT = 7,     /* inconsistent; `condition` says which condition (3 to 6) fails first */
-    MAXELTU_NO_SCHEDULE_AT_ALL = 8, /* no k has a schedule */
+    /* 8 said that no k has a schedule. It is no longer given, since a consistent specification has one, and is not used again. */
     MAXELTU_NOT_PASSED = 9,       /* the schedule taken does not pass */
 
     /* The even plan, and the reports of a plan. */
@@ -179,7 +179,8 @@ uint32_t maxeltu_verdict(const uint8_t *spec, size_t spec_len,
  * Whether the specification is consistent. The conditions, of which a part that
  * names an absent value is not applied:
  *   3  dmax <= B, smax <= P, P <= Tmin
- *   4  dmin * floor(R / smax) <= B
+ *   4  dmin * ceil(R / smax) <= B: R minutes that begin with a report hold that
+ *      many reports or more, so without it no schedule keeps the budget
  *   5  ceil(L / dmax) <= floor(P / smin)
  *   6  B * P >= L * R
  *
@@ -226,8 +227,9 @@ uint32_t maxeltu_max_supply(const uint8_t *spec, size_t spec_len, uint32_t k,
  *
  * Answers 0 where the schedule taken passes: then its endless run obeys the
  * specification. 1 to 4 or 24; 25 where there is a second range of gaps; 5 where
- * a rate is absent; 7 where the specification is inconsistent; 8 where no k has a
- * schedule; 9 where the one taken does not pass.
+ * a rate is absent; 7 where the specification is inconsistent; 9 where the
+ * schedule taken does not pass. There is always one to take: a consistent
+ * specification with both rates has a schedule with some k.
  * Writes *condition, the condition that fails first, only where the answer is 7;
  * and only where it is 0 *k, *period and *total, the plan (of the well-formed
  * kind), and *supply, its required or available supply.

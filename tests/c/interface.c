@@ -247,8 +247,9 @@ static void samples_of_plans(void)
     CHECK(test(sample_d()) == 0 && hold(4, 2, 79, 10, 20));
     CHECK(even_plan(sample_d()) == MAXELTU_NO_EVEN_PLAN && untouched());
     CHECK(test(sample_e()) == 0 && hold(4, 1, 79, 10, 20));
-    CHECK(consistency(sample_f()) == 0 && untouched());
-    CHECK(test(sample_f()) == MAXELTU_NO_SCHEDULE_AT_ALL && untouched());
+    CHECK(consistency(sample_f()) == MAXELTU_INCONSISTENT && hold(1, 4));
+    CHECK(test(sample_f()) == MAXELTU_INCONSISTENT && hold(5, held[0], held[1], held[2], held[3], 4));
+    CHECK(test(spec_of(15, 8, 5, 5, 4, 4, 15, 10, 5, 20)) == 0 && hold(4, 3, 12, 15, 25));
     CHECK(even_plan(spec_of(7, 6, 5, 5, 4, 4, 10, 10)) == MAXELTU_NO_EVEN_PLAN && untouched());
     end();
 }
@@ -491,7 +492,7 @@ static void refusals_of_plans(void)
         spec_of(15, 8, 2, 17, 5, 5, 16, 26, 10, 20),          /* dmax > B */
         spec_of(15, 8, 2, 3, 5, 21, 16, 26, 10, 20),          /* smax > P */
         spec_of(31, 10, 2, 3, 5, 5, 16, 26, 10, 20, 19, 60),  /* P > Tmin */
-        spec_of(15, 8, 2, 3, 5, 5, 9, 26, 10, 20),            /* 2 * 5 > 9 */
+        spec_of(15, 8, 2, 3, 5, 5, 11, 26, 10, 20),           /* 2 * 6 > 11 */
         spec_of(15, 8, 2, 3, 5, 5, 16, 26, 13, 20),           /* 5 reports of 3, 4 fit */
         spec_of(15, 8, 2, 3, 5, 5, 12, 26, 10, 20),           /* 12 * 20 < 10 * 26 */
     };

@@ -5,7 +5,6 @@ use native.Mathlib.Omega.{arith}
 use mathlib.Core.Path.{_≡_, refl, sym, _∙_}
 use mathlib.Core.Logic.{_↔_}
 use mathlib.Core.Bool.{Bool, true, false, cond}
-use lib.Dec.{leb}
 use borrow.Author.Tests.{leb-true, leb-false}
 use Rattle.numbers.specs.Numbers.{ceil}
 use Rattle.spec.specs.declared.Rate.{Rate}
@@ -61,10 +60,9 @@ fourth-fails s e =
     let told = both-told s (Inconsistent FewestReportsFitBudget) (λ n h. let z : _≡_ {A = ℕ} 0 1 = cc in omega arith) e in
     (told .0, pick (s .supply) refl (rw (told .1) at (conditions-judged s)))
   where
-    pick : (x : Rate) → s .supply ≡ x → whereRate x (λ b r. leb (s .dmin * ceil r (s .smax)) b) ≡ false
-        → (b : ℕ) × (r : ℕ) × (s .supply ≡ Present b r) × (b < s .dmin * ceil r (s .smax))
-    pick Absent h x = absurd (let z : _≡_ {A = ℕ} 0 1 = cc in omega arith)
-    pick (Present b r) h x = (b, r, h, leb-false _ _ x)
+    pick : (x : Rate) → s .supply ≡ x → fewestReportsFitBudget s ≡ false → (b : ℕ) × (r : ℕ) × (s .supply ≡ Present b r) × (b < s .dmin * ceil r (s .smax))
+    pick Absent h x = absurd (let y = rw h at x in let z : _≡_ {A = ℕ} 0 1 = cc in omega arith)
+    pick (Present b r) h x = (b, r, h, leb-false _ _ (rw h at x))
 
 -- Condition 5, where there is a demand rate.
 pub fifth-holds : (s : Spec) (l p : ℕ) → consistencyOf s ≡ Consistent → s .demand ≡ Present l p → ceil l (s .dmax) ≤ p / s .smin

@@ -4,7 +4,7 @@ use Prim.Native.Nat.{ℕ, _≤_, _<_}
 use native.Mathlib.Omega.{arith}
 use mathlib.Core.Path.{_≡_, refl, sym, _∙_, ap}
 use mathlib.Core.Logic.{_⊎_, inl, inr, ⊎-elim}
-use mathlib.Core.Bool.{Bool, true, false, cond}
+use mathlib.Core.Bool.{Bool, true, false}
 use Rattle.spec.specs.declared.Spec.{Spec}
 use Rattle.spec.specs.declared.Rates.{Rates}
 use Rattle.spec.specs.declared.BothRates.the-variants.{Both}
@@ -28,17 +28,18 @@ use Rattle.feasibility.proofs.Counts.{some-count}
 use Rattle.feasibility.proofs.Best.{good-both, taken-best}
 
 -- what is tested passes, or gets 9
-pub passes-or-9 : (f : Family) (q : Rates) (t : Taken)
-    → ((testTaken f q t ≡ Passed (t .plan) (t .supply)) × (figurePasses f q (t .supply) ≡ true))
+abbrev PassesOr9 : Family → Rates → Taken → Type 0
+PassesOr9 f q t =
+    ((testTaken f q t ≡ Passed (t .plan) (t .supply)) × (figurePasses f q (t .supply) ≡ true))
     ⊎ ((testTaken f q t ≡ Refused 9) × (figurePasses f q (t .supply) ≡ false))
+
+pub passes-or-9 : (f : Family) (q : Rates) (t : Taken) → PassesOr9 f q t
 unfolding testTaken
 passes-or-9 f q t = pick (figurePasses f q (t .supply)) refl
   where
-    pick : (b : Bool) → figurePasses f q (t .supply) ≡ b
-        → ((cond b (Passed (t .plan) (t .supply)) (Refused 9) ≡ Passed (t .plan) (t .supply)) × (figurePasses f q (t .supply) ≡ true))
-        ⊎ ((cond b (Passed (t .plan) (t .supply)) (Refused 9) ≡ Refused 9) × (figurePasses f q (t .supply) ≡ false))
-    pick true e = inl (refl, e)
-    pick false e = inr (refl, e)
+    pick : (b : Bool) → figurePasses f q (t .supply) ≡ b → PassesOr9 f q t
+    pick true e = inl (rw e, e)
+    pick false e = inr (rw e, e)
 
 -- there is one best only
 pub unique : (f : Family) (s : Spec) {p plan : Plan} {w v : ℕ} → BestOfAll f s p w → BestOfAll f s plan v → Found p w ≡ Found plan v

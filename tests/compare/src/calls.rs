@@ -13,8 +13,8 @@ pub fn all(runner: &mut Runner) {
     runner.random("consistency", RUNS, &[0, 1, 2, 3, 4, 24, 25, 73, 74, 75, 76], consistency_case);
     runner.random("minimum demand", RUNS, &[0, 1, 2, 3, 4, 5, 6, 24, 25], min_demand_case);
     runner.random("maximum supply", RUNS, &[0, 1, 2, 3, 4, 5, 6, 24, 25], max_supply_case);
-    runner.random("test", RUNS, &[0, 1, 2, 3, 4, 5, 73, 74, 75, 76, 8, 9, 24, 25], test_case);
-    runner.random("test at the limits", RUNS / 8_000, &[0, 8, 9], test_at_the_limits_case);
+    runner.random("test", RUNS, &[0, 1, 2, 3, 4, 5, 73, 74, 75, 76, 9, 24, 25], test_case);
+    runner.random("test at the limits", RUNS / 8_000, &[0, 9], test_at_the_limits_case);
     runner.random("even plan, every gap counted", RUNS, &[0, 1, 2, 3, 4, 10, 24], even_case);
     runner.random("even plan of two ranges", RUNS, &[0, 1, 2, 3, 10], even_of_two_ranges_case);
     runner.random("even plan, size lists searched", RUNS / 4, &[0, 10], even_search_case);
@@ -156,7 +156,7 @@ fn make_consistent(random: &mut Random, spec: &mut Spec, scale: Scale) {
     spec.duration = None;
     let (Some((b, r)), Some((l, p))) = (&mut spec.supply, &mut spec.demand) else { return };
     *p = (*p).max(spec.gap.1);
-    let least_budget = spec.size.1.max(spec.size.0 * (*r / spec.gap.1)).max((*l * *r).div_ceil(*p));
+    let least_budget = spec.size.1.max(spec.size.0 * r.div_ceil(spec.gap.1)).max((*l * *r).div_ceil(*p));
     *b = if random.once_in(2) { least_budget } else { random.near(least_budget + 2, 2, scale.records) };
     *b = (*b).clamp(1, 20_000);
     *l = (*l).min(spec.size.1 * (*p / spec.gap.0)).max(1);
@@ -185,7 +185,7 @@ fn test_case(random: &mut Random, library: &mut Library) -> Verdict {
 /// The reference looks at up to a billion reports here, so the cases are few. In turn they are taken as drawn, or drawn until
 /// the library gives a certain answer; the reference judges all of them.
 fn test_at_the_limits_case(random: &mut Random, library: &mut Library) -> Verdict {
-    let turn = [Some(0), None, Some(9), None, Some(8)][random.case as usize % 5];
+    let turn = [Some(0), None, Some(9), None][random.case as usize % 4];
     for _ in 0..1_000 {
         let spec = spec_at_the_limits(random);
         let file = spec::write(&spec);

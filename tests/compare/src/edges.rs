@@ -49,15 +49,26 @@ fn consistency(checks: &mut Checks) {
         ("Tmin one below P, no supply", lasting(59, demand_only((2, 10), (5, 20), (5, 60))), Some(3)),
         ("Tmin 1, no demand", lasting(1, supply_only((2, 10), (5, 20), (10, 60))), None),
         ("Tmin 1, no rate", lasting(1, no_rates((2, 10), (5, 20))), None),
-        // 4: dmin × ⌊R/smax⌋ ≤ B
+        // 4: dmin × ⌈R/smax⌉ ≤ B
         ("2 × 3 reports = B", both_rates((2, 6), (5, 20), (6, 60), (4, 60)), None),
         ("2 × 3 reports, B one less", both_rates((2, 5), (5, 20), (5, 60), (4, 60)), Some(4)),
         ("3 × 3 reports", both_rates((3, 6), (5, 20), (6, 60), (4, 60)), Some(4)),
-        ("2 × 3 reports, R one below 4 gaps", both_rates((2, 6), (5, 20), (6, 79), (4, 60)), None),
+        ("2 × 4 reports, R one above 3 gaps", both_rates((2, 6), (5, 20), (6, 61), (4, 60)), Some(4)),
+        ("2 × 4 reports, R one below 4 gaps", both_rates((2, 6), (5, 20), (6, 79), (4, 60)), Some(4)),
         ("2 × 4 reports, R of 4 gaps", both_rates((2, 6), (5, 20), (6, 80), (4, 60)), Some(4)),
-        ("2 × 4 reports, smax one less", both_rates((2, 6), (5, 19), (6, 79), (4, 60)), Some(4)),
+        ("2 × 4 reports = B, R one above 3 gaps", both_rates((2, 8), (5, 20), (8, 61), (4, 60)), None),
+        ("2 × 4 reports = B, R of 4 gaps", both_rates((2, 8), (5, 20), (8, 80), (4, 60)), None),
+        ("2 × 5 reports, R one above 4 gaps", both_rates((2, 8), (5, 20), (8, 81), (4, 60)), Some(4)),
+        ("2 × 4 reports, smax one less", both_rates((2, 6), (5, 19), (6, 60), (4, 60)), Some(4)),
+        ("one report, R of one gap", both_rates((6, 6), (5, 20), (6, 20), (4, 60)), None),
+        ("two reports, R one above one gap", both_rates((6, 6), (5, 20), (6, 21), (4, 60)), Some(4)),
+        ("1 × 20,000 reports = B", both_rates((1, 1), (1, 1), (20_000, 20_000), (1, 1)), None),
+        ("1 × 20,001 reports", both_rates((1, 1), (1, 1), (20_000, 20_001), (1, 1)), Some(4)),
+        ("1,000 × 20,160 reports", both_rates((1_000, 1_000), (1, 1), (20_000, 20_160), (1, 1)), Some(4)),
         ("2 × 3 reports = B, no demand", supply_only((2, 6), (5, 20), (6, 60)), None),
         ("2 × 3 reports, B one less, no demand", supply_only((2, 5), (5, 20), (5, 60)), Some(4)),
+        ("2 × 4 reports, R one above 3 gaps, no demand", supply_only((2, 6), (5, 20), (6, 61)), Some(4)),
+        ("1,000 records a minute, no supply", demand_only((1_000, 1_000), (1, 1), (20_000, 20_160)), None),
         // 5: ⌈L/dmax⌉ ≤ ⌊P/smin⌋
         ("12 of 12 reports", both_rates((2, 10), (5, 20), (100, 10), (120, 60)), None),
         ("13 of 12 reports, L one more", both_rates((2, 10), (5, 20), (100, 10), (121, 60)), Some(5)),
@@ -173,6 +184,9 @@ fn test(checks: &mut Checks) {
         // With k 2, 3 and 4 any 8 minutes hold a period, of 6 records; with 5 and 6 they may hold 4.
         ("R one below P, greatest available, smallest k", both_rates((1, 4), (2, 4), (6, 7), (4, 8)), Ok([2, 7, 6, 6])),
         ("R one below P, available = L", both_rates((1, 4), (2, 4), (4, 7), (4, 8)), Ok([2, 7, 4, 4])),
+        // The k with a schedule are from ⌈R/smax⌉ to ⌊B/dmin⌋, or from ⌈L/dmax⌉ to ⌊P/smin⌋: here 3 alone, with conditions 4 and 5 just kept.
+        ("R below P, only k 3", both_rates((5, 5), (4, 4), (15, 10), (5, 20)), Ok([3, 12, 15, 25])),
+        ("R = P, only k 3", both_rates((1, 5), (4, 4), (15, 12), (15, 12)), Ok([3, 12, 15, 15])),
         // Only k 2 has a schedule, of two reports of 5 in 90 minutes: three of them in any 159.
         ("sample C, available = L", both_rates((5, 6), (45, 46), (10, 79), (15, 159)), Ok([2, 90, 10, 15])),
         ("sample C, L one above available", both_rates((5, 6), (45, 46), (10, 79), (16, 159)), Err(Refused(9))),

@@ -120,7 +120,7 @@ fn after_25(checks: &mut Checks) {
         ("4 × 3 records above B", both_rates((3, 10), (5, 15), (11, 60), (8, 90)), Err(Inconsistent(4))),
         ("19 of 18 reports", van(Some((22, 1)), Some((181, 90))), Err(Inconsistent(5))),
         ("22 × 90 below 34 × 60", van(Some((22, 60)), Some((34, 90))), Err(Inconsistent(6))),
-        ("sample F", both_rates((5, 5), (4, 4), (10, 10), (5, 20)), Err(Refused(8))),
+        ("sample F", both_rates((5, 5), (4, 4), (10, 10), (5, 20)), Err(Inconsistent(4))),
         ("sample A with 28", a(28), Err(Refused(9))),
         ("sample A", a(29), Ok([3, 158, 17, 29])),
     ];

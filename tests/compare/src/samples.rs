@@ -3,7 +3,7 @@
 
 use crate::checks::{self, both_rates, pairs_of, with_second, Checks, Offer};
 use crate::group::Runner;
-use reference::feasibility::Failure::Refused;
+use reference::feasibility::Failure::{Inconsistent, Refused};
 use reference::{cycle, even, file, schedule, spec, Pair, Plan, Spec};
 
 /// The first reports of a plan, by minute and size.
@@ -163,12 +163,15 @@ fn samples_c_d_e(checks: &mut Checks) {
 fn sample_f(checks: &mut Checks) {
     let f = both_rates((5, 5), (4, 4), (10, 10), (5, 20));
     checks.file("f.spec", &spec::write(&f));
-    checks.consistency("F", &f, None);
-    checks.test("F", &f, Err(Refused(8)));
-    // Without its demand F is consistent and has no schedule: one size and one gap leave one, and it breaks the supply rule.
+    checks.consistency("F", &f, Some(4));
+    checks.test("F", &f, Err(Inconsistent(4)));
+    let kept = Spec { supply: Some((15, 10)), ..f.clone() };
+    checks.consistency("F with B 15", &kept, None);
+    checks.test("F with B 15", &kept, Ok([3, 12, 15, 25]));
+    // Without its demand F has no schedule either: one size and one gap leave one, and it breaks the supply rule.
     let no_demand = Spec { demand: None, ..f };
     checks.file("f-no-demand.spec", &spec::write(&no_demand));
-    checks.consistency("F without demand", &no_demand, None);
+    checks.consistency("F without demand", &no_demand, Some(4));
     checks.test("F without demand", &no_demand, Err(Refused(5)));
     checks.even("F without demand", &no_demand, Err(10));
     checks.cycle("F without demand, its only schedule", &no_demand, &[(4, 5)], 15);

@@ -1,4 +1,5 @@
-//! Document 01: minimum demand, maximum supply, consistency, the test; document 02, Req 06: none of them takes a second range of gaps.
+//! Document 01: minimum demand, maximum supply, consistency, the test; document 02, Req 06: none of them takes a second range of gaps;
+//! Req 07: condition 4 counts from a report on, and the test always finds some k.
 
 use crate::schedule::{least_and_most, Schedule};
 use crate::{Kind, Plan, Refusal, Spec};
@@ -41,7 +42,7 @@ fn failing_condition(spec: &Spec) -> Option<u32> {
     // Each part as Some(holds), or None where a value is absent.
     let conditions: [(u32, Vec<Option<bool>>); 4] = [
         (3, vec![b.map(|b| dmax <= b), p.map(|p| smax <= p), p.and_then(|p| tmin.map(|tmin| p <= tmin))]),
-        (4, vec![b.and_then(|b| r.map(|r| dmin * (r / smax) <= b))]),
+        (4, vec![b.and_then(|b| r.map(|r| dmin * r.div_ceil(smax) <= b))]),
         (5, vec![l.and_then(|l| p.map(|p| l.div_ceil(dmax) <= p / smin))]),
         (6, vec![spec.supply.and_then(|(b, r)| spec.demand.map(|(l, p)| b * p >= l * r))]),
     ];
@@ -86,7 +87,8 @@ pub fn max_supply(spec: &Spec, k: u64, laid_out: u64) -> Result<(Plan, u64), Ref
     Ok((plan, least_and_most(&plan, p, laid_out).0))
 }
 
-/// The test. Every k is tried that the inequalities leave: a k above 20,160 has k × smin > P and k × dmin > B.
+/// The test. Every k is tried that the inequalities leave: a k above 20,160 has k × smin > P and k × dmin > B. That some k has a schedule
+/// is what document 02, Req 07, says of every consistent specification: where none had one, this would stop.
 pub fn test(spec: &Spec, laid_out: u64) -> Result<(Plan, u64), Failure> {
     one_range(spec).map_err(Failure::Refused)?;
     let (Some((b, r)), Some((l, p))) = (spec.supply, spec.demand) else { return Err(Failure::Refused(5)) };
@@ -98,7 +100,7 @@ pub fn test(spec: &Spec, laid_out: u64) -> Result<(Plan, u64), Failure> {
     } else {
         every_k.filter_map(|k| max_supply(spec, k, laid_out).ok()).min_by_key(|&(_, available)| Reverse(available))
     };
-    let Some((plan, supply)) = taken else { return Err(Failure::Refused(8)) };
+    let (plan, supply) = taken.expect("a k with a schedule");
     let passes = if r >= p { supply <= b } else { supply >= l };
     if passes {
         Ok((plan, supply))
