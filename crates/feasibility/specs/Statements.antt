@@ -1,5 +1,5 @@
--- What the test answers, exactly. Each is proved in proofs/Theorems.antt, beside what the demands' page says of the test. Lemma 6 and
--- Corollary 2 of document 000 are false and not used.
+-- What the test answers, exactly. Each is proved in proofs/Theorems.antt, beside what the demands' page says of the test. Lemma 6 of
+-- document 000 is false and not used; nor is Corollary 2, which is false under the condition 4 of that document.
 use Prim.Native.Nat.{ℕ, _≤_}
 use mathlib.Core.Path.{_≡_}
 use mathlib.Core.Logic.{_↔_, _⊎_}

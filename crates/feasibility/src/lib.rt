@@ -44,7 +44,7 @@ fn is_better(f: Family, v: u32, w: u32) -> bool
     }
 }
 
-// A schedule with its supply figure: one that there is, so that a search which begins with it needs no answer for none.
+// A schedule with its supply figure. There is no case for none: the search begins with a k that has a schedule.
 struct Taken {
     plan: Plan,
     supply: u32,

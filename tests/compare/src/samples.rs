@@ -76,7 +76,8 @@ fn minutes(checks: &mut Checks) {
 }
 
 fn meters(checks: &mut Checks) {
-    let sound = ["a", "a28", "b", "b14", "b15", "c", "d", "e", "f", "f-no-demand", "shift", "touching"].map(|name| (name, 0));
+    let sound =
+        ["a", "a28", "b", "b14", "b15", "c", "d", "e", "f", "f15", "f-no-demand", "shift", "touching"].map(|name| (name, 0));
     let refused = [("bad-map", 1), ("empty", 1), ("bad-length", 2), ("bad-limits", 3), ("bad-order", 4), ("bad-ranges", 24)];
     for (name, wanted) in sound.into_iter().chain(refused) {
         let name = format!("{name}.spec");
@@ -166,8 +167,10 @@ fn sample_f(checks: &mut Checks) {
     checks.consistency("F", &f, Some(4));
     checks.test("F", &f, Err(Inconsistent(4)));
     let kept = Spec { supply: Some((15, 10)), ..f.clone() };
+    checks.file("f15.spec", &spec::write(&kept));
     checks.consistency("F with B 15", &kept, None);
     checks.test("F with B 15", &kept, Ok([3, 12, 15, 25]));
+    checks.cycle("F with B 15, its only schedule", &kept, &[(4, 5)], 0);
     // Without its demand F has no schedule either: one size and one gap leave one, and it breaks the supply rule.
     let no_demand = Spec { demand: None, ..f };
     checks.file("f-no-demand.spec", &spec::write(&no_demand));
