@@ -53,8 +53,7 @@ cycle-said spec ps = said (countIn (length ps)) _ _ _ _
 cycle-own : (spec : Spec) (ps : List Pair) (n : ℕ) → 13 ≤ n → n ≤ 16 → checkNumber spec ps ≡ n → cycleNumber spec ps ≡ n
 unfolding checkNumber
 cycle-own spec ps n low high e =
-    let other : ¬ (specNumber spec ≡ n) = λ z. ⊎-elim (λ few. omega arith) (λ is. omega arith) (number-few spec) in
-    went-on (specNumber spec) (cycleNumber spec ps) (λ m. m) n (λ some. other) e .1
+    went-on (specNumber spec) (cycleNumber spec ps) (λ m. m) n (λ some z. ⊎-elim (λ few. omega arith) (λ is. omega arith) (number-few spec some)) e .1
 
 pub gap-refused : GapRefused
 unfolding gapsAllowed

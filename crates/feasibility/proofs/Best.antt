@@ -4,7 +4,6 @@
 use Prim.Native.Nat.{ℕ, zero, suc, _+_, _-_, _≤_}
 use native.Mathlib.Omega.{arith}
 use native.Mathlib.Nat.{le-trans}
-use native.Mathlib.Numerals.{add-one}
 use mathlib.Core.Path.{_≡_, refl, sym, _∙_, ap}
 use mathlib.Core.Logic.{⊎-elim}
 use mathlib.Core.Bool.{Bool, true, false, cond}
@@ -13,7 +12,6 @@ use Rattle.numbers.proofs.Cases.{lt-cases}
 use Rattle.spec.specs.declared.Spec.{Spec}
 use Rattle.spec.specs.declared.Rates.{Rates}
 use Rattle.spec.proofs.KnownRates.{Known}
-use Rattle.plan.specs.declared.Plan.{Plan}
 use Rattle.families.specs.declared.Family.{Family}
 use Rattle.families.specs.declared.Family.the-variants.{MinimumDemand, MaximumSupply}
 use Rattle.families.specs.declared.Scheduled.the-variants.{Found}

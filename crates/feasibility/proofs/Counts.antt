@@ -1,7 +1,7 @@
 -- The numbers of reports with a schedule are those from the first count to the last, and of a consistent specification there are some, of
 -- either family: condition 5 says that ⌈L/dmax⌉ reports, the first that reach L, fit P, and condition 4 that ⌈R/smax⌉, the first that
 -- reach R, fit B.
-use Prim.Native.Nat.{ℕ, _*_, _/_, _≤_}
+use Prim.Native.Nat.{ℕ, _≤_}
 use native.Mathlib.Omega.{arith}
 use native.Mathlib.Nat.{le-div-iff-mul-le, mul-comm}
 use mathlib.Core.Path.{_≡_}

@@ -1,11 +1,10 @@
 -- Condition 4 turns away nothing that could be: in a schedule that obeys the rules, the R minutes from report 0 on hold ⌈R/smax⌉ reports or
 -- more, each of dmin records or more, and no more than B.
-use Prim.Native.Nat.{ℕ, _*_, _≤_}
+use Prim.Native.Nat.{ℕ, _≤_}
 use native.Mathlib.Omega.{arith}
 use native.Mathlib.Nat.{mul-comm}
 use mathlib.Core.Path.{_≡_}
 use mathlib.Core.Logic.{⊎-elim}
-use mathlib.Core.Bool.{true}
 use Rattle.numbers.specs.Numbers.{ceil}
 use Rattle.spec.specs.declared.Spec.{Spec}
 use Rattle.spec.proofs.Facts.{size-allowed-iff, gap-in-either, gap-allowed-pos}

@@ -1,6 +1,6 @@
 -- What the test answers. Of a consistent specification with both rates it tests what is taken, and what is taken is the best of all k,
 -- of which there is one only. A passed plan and 9 come of nothing else.
-use Prim.Native.Nat.{ℕ, _≤_, _<_}
+use Prim.Native.Nat.{ℕ, _≤_}
 use native.Mathlib.Omega.{arith}
 use mathlib.Core.Path.{_≡_, refl, sym, _∙_, ap}
 use mathlib.Core.Logic.{_⊎_, inl, inr, ⊎-elim}
@@ -69,16 +69,21 @@ module _ (s : Spec) (q : Rates) (e : bothRates s ≡ Both q) where
   judged c h one = rw (started-at s q one e, h)
 
   -- a consistent specification is started with
-  pub begun : consistencyOf s ≡ Consistent → started s ≡ Both q
+  begun : consistencyOf s ≡ Consistent → started s ≡ Both q
   begun h = started-at s q (consistent-one-range s h) e
 
-  pub consistent : consistencyOf s ≡ Consistent → testOf s ≡ testTaken f q best
+  consistent : consistencyOf s ≡ Consistent → testOf s ≡ testTaken f q best
   unfolding testConsistent
   consistent h = judged Consistent h (consistent-one-range s h)
 
-  -- and the best of all k is taken
+  -- and the best of all k is taken, which passes or gets 9
   pub best-taken : consistencyOf s ≡ Consistent → BestOfAll f s (best .plan) (best .supply)
   best-taken h = let n = known s q (begun h) in taken-best s q n f (some-count s q n h f)
+
+  pub answered : consistencyOf s ≡ Consistent
+      → ((testOf s ≡ Passed (best .plan) (best .supply)) × (figurePasses f q (best .supply) ≡ true))
+      ⊎ ((testOf s ≡ Refused 9) × (figurePasses f q (best .supply) ≡ false))
+  answered h = rw (consistent h) (passes-or-9 f q best)
 
   outcome : TestsTaken ⊎ Otherwise
   unfolding testOf testConsistent
@@ -94,19 +99,22 @@ module _ (s : Spec) (q : Rates) (e : bothRates s ≡ Both q) where
       pick (NotJudged n) h one = absurd (one-range-no-number s one n h)
 
   -- a passed plan and 9 come only where what is taken is tested
-  pub tests-taken : (t : Tested) → testOf s ≡ t → ((c : Condition) → t ≡ Inconsistent c → ⊥) → (t ≡ Refused (oneRangeNumber s) → ⊥) → (consistencyOf s ≡ Consistent) × (testTaken f q best ≡ t)
-  tests-taken t x not-condition not-number =
+  tested : (t : Tested) → testOf s ≡ t → ((c : Condition) → t ≡ Inconsistent c → ⊥) → (t ≡ Refused (oneRangeNumber s) → ⊥) → consistencyOf s ≡ Consistent
+  tested t x not-condition not-number =
       ⊎-elim
-      (λ g. (g .0, sym (g .1) ∙ x))
+      (λ g. g .0)
       (λ g. absurd (⊎-elim (λ y. not-condition (y .0) (sym x ∙ y .1)) (λ y. not-number (sym x ∙ y)) g))
       outcome
 
-  -- a refusal from 5 to 23 is none of those that come first
-  not-first : (m : ℕ) → 4 < m → m < 24 → Refused m ≡ Refused (oneRangeNumber s) → ⊥
-  not-first m h l x = let z : m ≡ oneRangeNumber s = cc in ⊎-elim (λ k. omega arith) (λ k. omega arith) (one-range-few s (λ none. omega arith))
+  pub passed-consistent : (plan : Plan) (v : ℕ) → testOf s ≡ Passed plan v → consistencyOf s ≡ Consistent
+  passed-consistent plan v x =
+      tested (Passed plan v) x (λ c y. let z : _≡_ {A = ℕ} 0 1 = cc in omega arith) (λ y. let z : _≡_ {A = ℕ} 0 1 = cc in omega arith)
 
-  no-condition : (m : ℕ) (c : Condition) → Refused m ≡ Inconsistent c → ⊥
-  no-condition m c x = let z : _≡_ {A = ℕ} 0 1 = cc in omega arith
-
-  pub refused : (m : ℕ) → 4 < m → m < 24 → testOf s ≡ Refused m → (consistencyOf s ≡ Consistent) × (testTaken f q best ≡ Refused m)
-  refused m h l x = tests-taken (Refused m) x (no-condition m) (not-first m h l)
+  -- 9 is none of the numbers that come first
+  pub nine-consistent : testOf s ≡ Refused 9 → consistencyOf s ≡ Consistent
+  nine-consistent x =
+      tested
+      (Refused 9)
+      x
+      (λ c y. let z : _≡_ {A = ℕ} 0 1 = cc in omega arith)
+      (λ y. let z : 9 ≡ oneRangeNumber s = cc in ⊎-elim (λ k. omega arith) (λ k. omega arith) (one-range-few s (λ none. omega arith)))

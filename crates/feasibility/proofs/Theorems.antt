@@ -8,7 +8,7 @@ use Rattle.spec.specs.declared.Spec.{Spec}
 use Rattle.spec.specs.declared.Rates.{Rates}
 use Rattle.spec.specs.declared.BothRates.{BothRates}
 use Rattle.spec.specs.declared.BothRates.the-variants.{Both, Refused as NoRates}
-use Rattle.spec.specs.Rates.{HasTwoRanges, bothRates, started, ifRates}
+use Rattle.spec.specs.Rates.{HasTwoRanges, started, ifRates}
 use Rattle.spec.proofs.GoingOn.{started-both, started-numbers, rates-tell-25}
 use Rattle.spec.proofs.KnownRates.{known}
 use Rattle.schedule.specs.Rules.{Obeys}
@@ -20,61 +20,51 @@ use Rattle.consistency.specs.Consistency.{consistencyOf}
 use Rattle.consistency.proofs.Conditions.{one-range-no-number}
 use Rattle.families.proofs.Schedules.{found-at, some-at}
 use Rattle.feasibility.specs.declared.Tested.the-variants.{Passed, Refused}
-use Rattle.feasibility.specs.Test.{familyOf, taken, figurePasses, testConsistent, testOf, BestOfAll}
+use Rattle.feasibility.specs.Test.{familyOf, taken, testConsistent, testOf}
 use Rattle.feasibility.specs.Statements.{TestPasses, TestNotPassed, TestFinds, CountsExact}
 use Rattle.feasibility.proofs.Counts.{exists-iff}
 use Rattle.feasibility.proofs.Obeying.{obeys}
-use Rattle.feasibility.proofs.Outcomes.{passes-or-9, unique, tests-taken, begun, consistent, best-taken, refused}
+use Rattle.feasibility.proofs.Outcomes.{passes-or-9, unique, best-taken, answered, passed-consistent, nine-consistent}
 
 pub test-passes : TestPasses
 test-passes s q plan v e = (
   λ x.
-      let j = tests-taken s q e (Passed plan v) x (λ c y. let z : _≡_ {A = ℕ} 0 1 = cc in omega arith) (λ y. let z : _≡_ {A = ℕ} 0 1 = cc in omega arith) in
+      let h = passed-consistent s q e plan v x in
       ⊎-elim
       (λ (is, ok).
-      let same = sym is ∙ j .1 in
       let p : taken (familyOf q) s q .plan ≡ plan = cc in
       let w : taken (familyOf q) s q .supply ≡ v = cc in
-      (j .0, rw (← p, ← w) (best-taken s q e (j .0)), rw (← w) ok))
-      (λ (is, failed). absurd (let same = sym is ∙ j .1 in let z : _≡_ {A = ℕ} 0 1 = cc in omega arith))
-      (passes-or-9 (familyOf q) q (taken (familyOf q) s q)),
-  λ h.
-      let same = unique (familyOf q) s (best-taken s q e (h .0)) (h .1) in
-      let p : taken (familyOf q) s q .plan ≡ plan = cc in
+      (h, rw (← p, ← w) (best-taken s q e h), rw (← w) ok))
+      (λ (is, failed). absurd (let z : _≡_ {A = ℕ} 0 1 = cc in omega arith))
+      (answered s q e h),
+  λ (h, best, passes).
+      let same = unique (familyOf q) s (best-taken s q e h) best in
       let w : taken (familyOf q) s q .supply ≡ v = cc in
       ⊎-elim
-      (λ (is, ok). consistent s q e (h .0) ∙ is ∙ cc)
-      (λ (is, failed). absurd (let same : true ≡ false = cc in let z : _≡_ {A = ℕ} 0 1 = cc in omega arith))
-      (passes-or-9 (familyOf q) q (taken (familyOf q) s q)),
+      (λ (is, ok). is ∙ cc)
+      (λ (is, failed). absurd (let x : true ≡ false = cc in let z : _≡_ {A = ℕ} 0 1 = cc in omega arith))
+      (answered s q e h),
 )
 
 pub test-not-passed : TestNotPassed
 test-not-passed s q e = (
   λ x.
-      let j = refused s q e 9 (omega arith) (omega arith) x in
+      let h = nine-consistent s q e x in
       ⊎-elim
-      (λ (is, ok). absurd (let same = sym is ∙ j .1 in let z : _≡_ {A = ℕ} 0 1 = cc in omega arith))
-      (λ (is, failed). (j .0, (taken (familyOf q) s q .plan, taken (familyOf q) s q .supply, best-taken s q e (j .0), failed)))
-      (passes-or-9 (familyOf q) q (taken (familyOf q) s q)),
+      (λ (is, ok). absurd (let z : _≡_ {A = ℕ} 0 1 = cc in omega arith))
+      (λ (is, failed). (h, (_, _, best-taken s q e h, failed)))
+      (answered s q e h),
   λ (h, (plan, v, best, fails)).
       let same = unique (familyOf q) s (best-taken s q e h) best in
       let w : taken (familyOf q) s q .supply ≡ v = cc in
       ⊎-elim
-      (λ (is, ok). absurd (let same : true ≡ false = cc in let z : _≡_ {A = ℕ} 0 1 = cc in omega arith))
-      (λ (is, failed). consistent s q e h ∙ is)
-      (passes-or-9 (familyOf q) q (taken (familyOf q) s q)),
+      (λ (is, ok). absurd (let x : true ≡ false = cc in let z : _≡_ {A = ℕ} 0 1 = cc in omega arith))
+      (λ (is, failed). is)
+      (answered s q e h),
 )
 
 pub test-finds : TestFinds
-test-finds s q e h = (
-  taken (familyOf q) s q .plan,
-  taken (familyOf q) s q .supply,
-  best-taken s q e h,
-  ⊎-elim
-      (λ (is, ok). inl (consistent s q e h ∙ is))
-      (λ (is, failed). inr (consistent s q e h ∙ is))
-      (passes-or-9 (familyOf q) q (taken (familyOf q) s q)),
-)
+test-finds s q e h = (_, _, best-taken s q e h, ⊎-elim (λ x. inl (x .0)) (λ x. inr (x .0)) (answered s q e h))
 
 pub counts-exact : CountsExact
 counts-exact s q f k start =

@@ -181,8 +181,8 @@ module _ (s : Schedule) where
       minute-most j zero = rw (add-zero, zero-mul, add-zero) (omega arith)
       minute-most j (suc n) = rw (← add-one n, ← add-assoc j n 1, minute-more (j + n)) (omega (arith, add-mul n 1 g, one-mul g, minute-most j n, short (j + n)))
 
-      reports-least : (j w : ℕ) → ceil w g ≤ reportsBefore s (minute s j + w) - j
-      reports-least j w =
+      count-least : (j w : ℕ) → ceil w g ≤ reportsBefore s (minute s j + w) - j
+      count-least j w =
           let n = reportsBefore s (minute s j + w) - j in
           let low : j ≤ reportsBefore s (minute s j + w) = rw (before-minute j) at (before-mono (minute s j) (minute s j + w) (omega arith)) in
           ⊎-elim
@@ -197,4 +197,4 @@ module _ (s : Schedule) where
       pub stretch-least : (d : ℕ) → ((i : ℕ) → d ≤ s .size i) → (j w : ℕ) → ceil w g * d ≤ stretch s (minute s j) w
       stretch-least d full j w =
           rw (stretch-before (minute s j) w, before-minute j)
-          (le-trans (mul-le-mul-right d (reports-least j w)) (block-least (s .size) d full j _))
+          (le-trans (mul-le-mul-right d (count-least j w)) (block-least (s .size) d full j _))

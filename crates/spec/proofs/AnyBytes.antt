@@ -21,7 +21,7 @@ accept-is-read : (s : Spec) → SpecIsRead (accept s)
 accept-is-read s =
     ⊎-elim
     (λ a. inl (s, (goes-on (specNumber s) (Accepted s) Refused a, a)))
-    (λ a. inr (specNumber s, (stops (specNumber s) (Accepted s) Refused a, ⊎-elim (λ few. inl (omega arith, few)) (λ is. inr is) (number-few s))))
+    (λ a. inr (specNumber s, (stops (specNumber s) (Accepted s) Refused a, ⊎-elim (λ few. inl (omega arith, few .1)) (λ is. inr is) (number-few s a))))
     (none-or (specNumber s))
 
 -- what holds of both choices holds of the one taken

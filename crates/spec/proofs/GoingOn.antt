@@ -41,27 +41,17 @@ module _ {A : Type 0} (n : ℕ) (goOn : A) (tell : ℕ → A) where
 
 -- "3 a value out of its limits; 4 a lower bound above its upper"; "24 .. after 4": no other
 abbrev pub Few : ℕ → Type 0
-Few n = (n ≤ 4) ⊎ (n ≡ 24)
+Few n = ((3 ≤ n) × (n ≤ 4)) ⊎ (n ≡ 24)
 
-pub number-few : (s : Spec) → Few (specNumber s)
+pub number-few : (s : Spec) → ¬ IsAccepted s → Few (specNumber s)
 unfolding specNumber firstNumber
 number-few s = pick (limits s) (order s) (startsAbove (s .second) (s .smax))
   where
-    pick : (a b c : Bool) → Few (firstNumber a b c)
-    pick true true true = inl (omega arith)
-    pick true true false = inr refl
-    pick true false c = inl (omega arith)
-    pick false b c = inl (omega arith)
-
-number-low : (s : Spec) → (specNumber s ≡ 0) ⊎ (3 ≤ specNumber s)
-unfolding specNumber firstNumber
-number-low s = pick (limits s) (order s) (startsAbove (s .second) (s .smax))
-  where
-    pick : (a b c : Bool) → (firstNumber a b c ≡ 0) ⊎ (3 ≤ firstNumber a b c)
-    pick true true true = inl refl
-    pick true true false = inr (omega arith)
-    pick true false c = inr (omega arith)
-    pick false b c = inr (omega arith)
+    pick : (a b c : Bool) → ¬ (firstNumber a b c ≡ 0) → Few (firstNumber a b c)
+    pick true true true some = absurd (some refl)
+    pick true true false some = inr refl
+    pick true false c some = inl (omega arith, omega arith)
+    pick false b c some = inl (omega arith, omega arith)
 
 -- by whether there is a second range
 second-or : (x : Range) → ((x ≡ NoRange) × (secondNumber x ≡ 0)) ⊎ ((¬ (x ≡ NoRange)) × (secondNumber x ≡ 25))
@@ -94,7 +84,7 @@ module _ (s : Spec) where
   two-ranges-iff : (oneRangeNumber s ≡ 25) ↔ HasTwoRanges s
   two-ranges-iff = (
     λ e.
-        let few : ¬ (specNumber s ≡ 25) = λ z. ⊎-elim (λ h. omega arith) (λ h. omega arith) (number-few s) in
+        let few : ¬ (specNumber s ≡ 25) = λ z. ⊎-elim (λ h. omega arith) (λ h. omega arith) (number-few s (λ none. omega arith)) in
         let a = ⊎-elim (λ h. h) (λ h. absurd (few (sym (of-refused h) ∙ e))) (none-or (specNumber s)) in
         (a, ⊎-elim (λ h. absurd (omega (arith, of-accepted a, h .1))) (λ h. h .0) (second-or (s .second))),
     λ h. of-accepted (h .0) ∙ ⊎-elim (λ k. absurd (h .1 (k .0))) (λ k. k .1) (second-or (s .second)),
@@ -104,9 +94,7 @@ module _ (s : Spec) where
   one-range-few some =
       ⊎-elim
       (λ a. ⊎-elim (λ h. absurd (some (of-accepted a ∙ h .1))) (λ h. inr (omega (arith, of-accepted a, h .1))) (second-or (s .second)))
-      (λ a.
-      let low : 3 ≤ specNumber s = ⊎-elim (λ z. absurd (a z)) (λ h. h) (number-low s) in
-      ⊎-elim (λ h. inl (omega (arith, of-refused a))) (λ h. inr (omega (arith, of-refused a))) (number-few s))
+      (λ a. ⊎-elim (λ h. inl (omega (arith, of-refused a))) (λ h. inr (omega (arith, of-refused a))) (number-few s a))
       (none-or (specNumber s))
 
   -- so an operation that begins so and has no 25 of its own tells 25 exactly there
