@@ -179,10 +179,11 @@ uint32_t maxeltu_verdict(const uint8_t *spec, size_t spec_len,
  * Whether the specification is consistent. The conditions, of which a part that
  * names an absent value is not applied:
  *   3  dmax <= B, smax <= P, P <= Tmin
- *   4  dmin * ceil(R / smax) <= B: R minutes that begin with a report hold that
- *      many reports or more, so without it no schedule keeps the budget
+ *   4  dmin * ceil(R / smax) <= B
  *   5  ceil(L / dmax) <= floor(P / smin)
  *   6  B * P >= L * R
+ * R minutes that begin with a report hold ceil(R / smax) reports or more, so that
+ * no schedule at all obeys a specification that fails condition 4.
  *
  * Answers 0 where it is; 1 to 4 or 24; 25 where there is a second range of gaps;
  * 7 where it is not.

@@ -3,7 +3,7 @@
 use Prim.Native.Nat.{ℕ, _+_, _-_, _*_, _/_, _%_, _≤_, _<_}
 use mathlib.Core.Path.{_≡_}
 use mathlib.Core.Logic.{_↔_, _⊎_}
-use mathlib.Core.Bool.{true}
+use mathlib.Core.Bool.{true, false}
 use mathlib.Core.List.{List, [], _++_}
 use lib.ListN.{length, take}
 use Rattle.numbers.specs.Numbers.{ceil}
@@ -35,7 +35,7 @@ use Rattle.families.specs.declared.Family.the-variants.{MinimumDemand, MaximumS
 use Rattle.families.specs.declared.Scheduled.the-variants.{Found as ScheduleOf, Refused as NotScheduled}
 use Rattle.families.specs.Families.{scheduleFor}
 use Rattle.feasibility.specs.declared.Tested.the-variants.{Passed, Refused as NotTested}
-use Rattle.feasibility.specs.Test.{familyOf, testOf, BestOfAll}
+use Rattle.feasibility.specs.Test.{familyOf, figurePasses, testOf, BestOfAll}
 use Rattle.even.specs.declared.EvenPlan.the-variants.{Found, Refused}
 use Rattle.even.specs.Even.{evenPlan, evenly}
 use Rattle.pairs.specs.declared.Pair.{Pair}
@@ -103,9 +103,11 @@ pub record Demands : Type 0 where
   -- schedule with no gap 0 and none above smax; so no schedule at all obeys a specification that condition 4 turns away.
   pub carriers-count : (t : Schedule) (smax : ℕ) → ((i : ℕ) → (1 ≤ t .gap i) × (t .gap i ≤ smax)) → (i r : ℕ) → ceil r smax ≤ stretch (counted t) (minute t i) r
   pub condition-4-needed : (s : Spec) → consistencyOf s ≡ Inconsistent FewestReportsFitBudget → (t : Schedule) → ¬ Obeys s t
-  -- the test finds some k for every consistent specification with both rates: there is a best of all k, and it passes that or gives 9
+  -- the test finds some k for every consistent specification, which is an accepted one, with both rates: there is a best of all k, and where its
+  -- figure passes the test passes it, else it gives 9
   pub test-finds : (s : Spec) (q : Rates) → bothRates s ≡ Both q → consistencyOf s ≡ Consistent
-      → (p : Plan) × (v : ℕ) × BestOfAll (familyOf q) s p v × ((testOf s ≡ Passed p v) ⊎ (testOf s ≡ NotTested 9))
+      → (p : Plan) × (v : ℕ) × BestOfAll (familyOf q) s p v
+      × (((testOf s ≡ Passed p v) × (figurePasses (familyOf q) q v ≡ true)) ⊎ ((testOf s ≡ NotTested 9) × (figurePasses (familyOf q) q v ≡ false)))
   -- so beside 7 it has no numbers but 3 to 5, 9, 24 and 25: 8 is given to nobody
   pub test-numbers : (s : Spec) (n : ℕ) → testOf s ≡ NotTested n → ((3 ≤ n) × (n ≤ 5)) ⊎ ((n ≡ 9) ⊎ ((24 ≤ n) × (n ≤ 25)))
   -- report i of a proper plan is report i of its endless run, for every i without upper end

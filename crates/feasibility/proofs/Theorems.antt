@@ -64,7 +64,7 @@ test-not-passed s q e = (
 )
 
 pub test-finds : TestFinds
-test-finds s q e h = (_, _, best-taken s q e h, ⊎-elim (λ x. inl (x .0)) (λ x. inr (x .0)) (answered s q e h))
+test-finds s q e h = (_, _, best-taken s q e h, answered s q e h)
 
 pub counts-exact : CountsExact
 counts-exact s q f k start =

@@ -33,11 +33,12 @@ TestNotPassed =
     × ((plan : Plan) × (v : ℕ) × BestOfAll (familyOf q) s plan v × (figurePasses (familyOf q) q v ≡ false)))
 
 -- Document 02, Req 07: "under the new condition the test finds some k for every consistent specification with both rates": there is a best
--- of all k, and the test passes it or gives 9.
+-- of all k, and where its figure passes the test passes it, else it gives 9.
 abbrev pub TestFinds : Type 0
 TestFinds =
     (s : Spec) (q : Rates) → bothRates s ≡ Both q → consistencyOf s ≡ Consistent
-    → (plan : Plan) × (v : ℕ) × BestOfAll (familyOf q) s plan v × ((testOf s ≡ Passed plan v) ⊎ (testOf s ≡ Refused 9))
+    → (plan : Plan) × (v : ℕ) × BestOfAll (familyOf q) s plan v
+    × (((testOf s ≡ Passed plan v) × (figurePasses (familyOf q) q v ≡ true)) ⊎ ((testOf s ≡ Refused 9) × (figurePasses (familyOf q) q v ≡ false)))
 
 -- The k with a schedule are just those that the test looks at.
 abbrev pub CountsExact : Type 0
