@@ -27,17 +27,17 @@ use Rattle.feasibility.specs.Test.{familyOf, taken, figurePasses, testTa
 use Rattle.feasibility.proofs.Counts.{some-count}
 use Rattle.feasibility.proofs.Best.{good-both, taken-best}
 
--- what is tested passes, or gets 9
-abbrev PassesOr9 : Family → Rates → Taken → Type 0
-PassesOr9 f q t =
-    ((testTaken f q t ≡ Passed (t .plan) (t .supply)) × (figurePasses f q (t .supply) ≡ true))
-    ⊎ ((testTaken f q t ≡ Refused 9) × (figurePasses f q (t .supply) ≡ false))
+-- the answer passes the schedule where its figure passes, and is 9 where it does not
+abbrev PassesOr9 : Family → Rates → Taken → Tested → Type 0
+PassesOr9 f q t answer =
+    ((answer ≡ Passed (t .plan) (t .supply)) × (figurePasses f q (t .supply) ≡ true))
+    ⊎ ((answer ≡ Refused 9) × (figurePasses f q (t .supply) ≡ false))
 
-pub passes-or-9 : (f : Family) (q : Rates) (t : Taken) → PassesOr9 f q t
+pub passes-or-9 : (f : Family) (q : Rates) (t : Taken) → PassesOr9 f q t (testTaken f q t)
 unfolding testTaken
 passes-or-9 f q t = pick (figurePasses f q (t .supply)) refl
   where
-    pick : (b : Bool) → figurePasses f q (t .supply) ≡ b → PassesOr9 f q t
+    pick : (b : Bool) → figurePasses f q (t .supply) ≡ b → PassesOr9 f q t (testTaken f q t)
     pick true e = inl (rw e, e)
     pick false e = inr (rw e, e)
 
@@ -80,9 +80,7 @@ module _ (s : Spec) (q : Rates) (e : bothRates s ≡ Both q) where
   pub best-taken : consistencyOf s ≡ Consistent → BestOfAll f s (best .plan) (best .supply)
   best-taken h = let n = known s q (begun h) in taken-best s q n f (some-count s q n h f)
 
-  pub answered : consistencyOf s ≡ Consistent
-      → ((testOf s ≡ Passed (best .plan) (best .supply)) × (figurePasses f q (best .supply) ≡ true))
-      ⊎ ((testOf s ≡ Refused 9) × (figurePasses f q (best .supply) ≡ false))
+  pub answered : consistencyOf s ≡ Consistent → PassesOr9 f q best (testOf s)
   answered h = rw (consistent h) (passes-or-9 f q best)
 
   outcome : TestsTaken ⊎ Otherwise

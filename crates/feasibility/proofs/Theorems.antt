@@ -8,7 +8,7 @@ use Rattle.spec.specs.declared.Spec.{Spec}
 use Rattle.spec.specs.declared.Rates.{Rates}
 use Rattle.spec.specs.declared.BothRates.{BothRates}
 use Rattle.spec.specs.declared.BothRates.the-variants.{Both, Refused as NoRates}
-use Rattle.spec.specs.Rates.{HasTwoRanges, started, ifRates}
+use Rattle.spec.specs.Rates.{HasTwoRanges, bothRates, started, ifRates}
 use Rattle.spec.proofs.GoingOn.{started-both, started-numbers, rates-tell-25}
 use Rattle.spec.proofs.KnownRates.{known}
 use Rattle.schedule.specs.Rules.{Obeys}
@@ -20,8 +20,8 @@ use Rattle.consistency.specs.Consistency.{consistencyOf}
 use Rattle.consistency.proofs.Conditions.{one-range-no-number}
 use Rattle.families.proofs.Schedules.{found-at, some-at}
 use Rattle.feasibility.specs.declared.Tested.the-variants.{Passed, Refused}
-use Rattle.feasibility.specs.Test.{familyOf, taken, testConsistent, testOf}
-use Rattle.feasibility.specs.Statements.{TestPasses, TestNotPassed, TestFinds, CountsExact}
+use Rattle.feasibility.specs.Test.{familyOf, taken, figurePasses, testConsistent, testOf, BestOfAll}
+use Rattle.feasibility.specs.Statements.{TestPasses, TestNotPassed, CountsExact}
 use Rattle.feasibility.proofs.Counts.{exists-iff}
 use Rattle.feasibility.proofs.Obeying.{obeys}
 use Rattle.feasibility.proofs.Outcomes.{passes-or-9, unique, best-taken, answered, passed-consistent, nine-consistent}
@@ -63,7 +63,10 @@ test-not-passed s q e = (
       (answered s q e h),
 )
 
-pub test-finds : TestFinds
+-- A consistent specification with both rates has a best of all k, which the test passes where its figure passes; else it gives 9.
+pub test-finds : (s : Spec) (q : Rates) → bothRates s ≡ Both q → consistencyOf s ≡ Consistent
+    → (plan : Plan) × (v : ℕ) × BestOfAll (familyOf q) s plan v
+    × (((testOf s ≡ Passed plan v) × (figurePasses (familyOf q) q v ≡ true)) ⊎ ((testOf s ≡ Refused 9) × (figurePasses (familyOf q) q v ≡ false)))
 test-finds s q e h = (_, _, best-taken s q e h, answered s q e h)
 
 pub counts-exact : CountsExact

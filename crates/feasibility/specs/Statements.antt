@@ -2,7 +2,7 @@
 -- document 000 is false and not used; nor is Corollary 2, which is false under the condition 4 of that document.
 use Prim.Native.Nat.{ℕ, _≤_}
 use mathlib.Core.Path.{_≡_}
-use mathlib.Core.Logic.{_↔_, _⊎_}
+use mathlib.Core.Logic.{_↔_}
 use mathlib.Core.Bool.{true, false}
 use Rattle.spec.specs.declared.Spec.{Spec}
 use Rattle.spec.specs.declared.Rates.{Rates}
@@ -31,14 +31,6 @@ TestNotPassed =
     → (testOf s ≡ Refused 9)
     ↔ ((consistencyOf s ≡ Consistent)
     × ((plan : Plan) × (v : ℕ) × BestOfAll (familyOf q) s plan v × (figurePasses (familyOf q) q v ≡ false)))
-
--- Document 02, Req 07: "under the new condition the test finds some k for every consistent specification with both rates": there is a best
--- of all k, and where its figure passes the test passes it, else it gives 9.
-abbrev pub TestFinds : Type 0
-TestFinds =
-    (s : Spec) (q : Rates) → bothRates s ≡ Both q → consistencyOf s ≡ Consistent
-    → (plan : Plan) × (v : ℕ) × BestOfAll (familyOf q) s plan v
-    × (((testOf s ≡ Passed plan v) × (figurePasses (familyOf q) q v ≡ true)) ⊎ ((testOf s ≡ Refused 9) × (figurePasses (familyOf q) q v ≡ false)))
 
 -- The k with a schedule are just those that the test looks at.
 abbrev pub CountsExact : Type 0

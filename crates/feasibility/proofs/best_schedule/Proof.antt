@@ -1,4 +1,4 @@
--- The invariant: what is taken so far is the best of the first k to this one. It holds at the first, goes on by one k (`taken-next`), and
+-- The invariant: what is taken so far is the best from the first k to this one. It holds at the first, goes on by one k (`taken-next`), and
 -- at the last it is what is taken. Every k from the first to the last has a schedule (`exists-iff`).
 use Prim.Native.Nat.{_-_, _≤_}
 use native.Mathlib.Omega.{arith}
