@@ -25,19 +25,20 @@
  *    promise it, so do not rely on it.)
  *  - The length of a list or of bytes that is handed in is a size_t, as C counts
  *    them, and any length may be handed in. Every number that is handed out is
- *    a uint32_t (a minute, and the records between two, a uint64_t), also the
- *    count of pairs that were read and the length of a file that was written:
- *    these are at most 512 and 2562, and callers have one type for all of them.
+ *    a uint32_t (a minute, the records between two, and a bill, a uint64_t),
+ *    also the count of pairs that were read and the length of a file that was
+ *    written: these are at most 512 and 2562, and callers have one type for all
+ *    of them.
  *  - The places behind two pointers of one call must not overlap, unless the
  *    call only reads both of them.
  *  - No call keeps a pointer, allocates, prints, or holds state between calls
  *    (what a meter has accepted stands in the caller's struct): calls from
  *    several threads at once are fine as long as they share no place that one of
  *    them writes. So one meter belongs to one thread at a time.
- *  - A call that checks, reads or writes a cycle holds it once, unpacked, on the
- *    stack: 2,048 bytes, and with all else that it needs some 2,350 (measured on
- *    x86-64; tests/c/stack.c tells it of another build). A check looks at each
- *    pair a fixed number of times at most, whatever R and P are.
+ *  - A call that checks, bills, reads or writes a cycle holds it once, unpacked,
+ *    on the stack: 2,048 bytes, and with all else that it needs some 2,350
+ *    (measured on x86-64; tests/c/stack.c tells it of another build). A check
+ *    looks at each pair a fixed number of times at most, whatever R and P are.
  *
  * Specification file: one byte of bit map (bit 0, the lowest, size; 1 gap;
  * 2 supply; 3 demand; 4 duration; 5 second range of gaps). Then, in that order,
@@ -310,6 +311,24 @@ uint32_t maxeltu_between(uint32_t kind, uint32_t k, uint32_t period,
                          uint32_t *reports, uint64_t *records);
 
 /*
+ * What the first `reports` reports of a plan cost. A plan is handed in as for
+ * maxeltu_report; any number of reports may be asked for, and the answer takes a
+ * few divisions.
+ *
+ * The carrier prices each report by the first band that its size does not
+ * exceed. Bands: 1, 2, 4, 8, 16, 32, 64, 125, 250, 500, 1000 records. Prices in
+ * tenths of a cent: 3, 5, 8, 14, 25, 46, 85, 150, 280, 530, 1000. No report of a
+ * proper plan, nor of a cycle that is passed, is larger than the last band.
+ *
+ * Answers 0; 11 where the plan is not proper.
+ * Writes *tenths, the sum of their prices in tenths of a cent, and *cents, the
+ * bill in whole cents, rounded once, at the end, half a cent up.
+ */
+uint32_t maxeltu_plan_cost(uint32_t kind, uint32_t k, uint32_t period,
+                           uint32_t total, uint32_t reports,
+                           uint64_t *tenths, uint64_t *cents);
+
+/*
  * Checks a cycle of `count` pairs against the specification, over its endless
  * repetition.
  *
@@ -321,6 +340,20 @@ uint32_t maxeltu_between(uint32_t kind, uint32_t k, uint32_t period,
  */
 uint32_t maxeltu_check_cycle(const uint8_t *spec, size_t spec_len,
                              const struct maxeltu_pair *pairs, size_t count);
+
+/*
+ * What the first `reports` reports of a cycle's endless repetition cost, by the
+ * same prices. The cycle is checked first; its whole rounds are a product, so that
+ * the work does not grow with the number of reports.
+ *
+ * Answers 0; 1 to 4 or 24, 12 and 13 to 16, as maxeltu_check_cycle does.
+ * Reads `count` pairs; of more than 512, none.
+ * Writes *tenths and *cents, as maxeltu_plan_cost does.
+ */
+uint32_t maxeltu_cycle_cost(const uint8_t *spec, size_t spec_len,
+                            const struct maxeltu_pair *pairs, size_t count,
+                            uint32_t reports,
+                            uint64_t *tenths, uint64_t *cents);
 
 /*
  * Reads a cycle file into a lent list of `places` pairs.
