@@ -13,7 +13,7 @@ use Rattle.spec.specs.declared.Rate.{Rate}
 use Rattle.spec.specs.declared.Rate.the-variants.{Absent, Present}
 use Rattle.spec.specs.declared.Spec.{Spec}
 use Rattle.spec.specs.Limits.{specNumber, IsAccepted}
-use Rattle.spec.proofs.Facts.{gap-allowed-pos}
+use Rattle.spec.proofs.Facts.{between-iff, facts, size-allowed-iff, gap-allowed-pos}
 use Rattle.spec.proofs.GoingOn.{went-on, number-few}
 use Rattle.pairs.specs.declared.Pair.{Pair}
 use Rattle.pairs.specs.Pairs.{countIn}
@@ -26,8 +26,8 @@ use Rattle.cycle.proofs.Runs.{gaps-right, sizes-right, supply-right, de
 use Rattle.cycle.proofs.Steps.{gets-cycle, gets-0}
 
 -- which tests passed and which failed, by the number
-record Said (n : ℕ) (gaps sizes supply demand : Bool) : Type 0 where
-  is-0 : n ≡ 0 → (gaps ≡ true) × (sizes ≡ true) × (supply ≡ true) × (demand ≡ true)
+record Said (n : ℕ) (count gaps sizes supply demand : Bool) : Type 0 where
+  is-0 : n ≡ 0 → (count ≡ true) × (gaps ≡ true) × (sizes ≡ true) × (supply ≡ true) × (demand ≡ true)
   is-13 : n ≡ 13 → gaps ≡ false
   is-14 : n ≡ 14 → sizes ≡ false
   is-15 : n ≡ 15 → supply ≡ false
@@ -37,15 +37,15 @@ record Said (n : ℕ) (gaps sizes supply demand : Bool) : Type 0 where
 no : {A : Type 0} (n m : ℕ) → (n ≡ m → ⊥) → n ≡ m → A
 no n m h e = absurd (h e)
 
-said : (a b c d e : Bool) → Said (cond a (cond b (cond c (cond d (cond e 0 16) 15) 14) 13) 12) b c d e
-said true true true true true = record { is-0 = λ h. (refl, refl, refl, refl); is-13 = no 0 13 (omega arith); is-14 = no 0 14 (omega arith); is-15 = no 0 15 (omega arith); is-16 = no 0 16 (omega arith) }
+said : (a b c d e : Bool) → Said (cond a (cond b (cond c (cond d (cond e 0 16) 15) 14) 13) 12) a b c d e
+said true true true true true = record { is-0 = λ h. (refl, refl, refl, refl, refl); is-13 = no 0 13 (omega arith); is-14 = no 0 14 (omega arith); is-15 = no 0 15 (omega arith); is-16 = no 0 16 (omega arith) }
 said true true true true false = record { is-0 = no 16 0 (omega arith); is-13 = no 16 13 (omega arith); is-14 = no 16 14 (omega arith); is-15 = no 16 15 (omega arith); is-16 = λ h. refl }
 said true true true false e = record { is-0 = no 15 0 (omega arith); is-13 = no 15 13 (omega arith); is-14 = no 15 14 (omega arith); is-15 = λ h. refl; is-16 = no 15 16 (omega arith) }
 said true true false d e = record { is-0 = no 14 0 (omega arith); is-13 = no 14 13 (omega arith); is-14 = λ h. refl; is-15 = no 14 15 (omega arith); is-16 = no 14 16 (omega arith) }
 said true false c d e = record { is-0 = no 13 0 (omega arith); is-13 = λ h. refl; is-14 = no 13 14 (omega arith); is-15 = no 13 15 (omega arith); is-16 = no 13 16 (omega arith) }
 said false b c d e = record { is-0 = no 12 0 (omega arith); is-13 = no 12 13 (omega arith); is-14 = no 12 14 (omega arith); is-15 = no 12 15 (omega arith); is-16 = no 12 16 (omega arith) }
 
-cycle-said : (spec : Spec) (ps : List Pair) → Said (cycleNumber spec ps) (gapsAllowed spec ps) (sizesAllowed spec ps) (supplyKept (spec .supply) ps) (demandMet (spec .demand) ps)
+cycle-said : (spec : Spec) (ps : List Pair) → Said (cycleNumber spec ps) (countIn (length ps)) (gapsAllowed spec ps) (sizesAllowed spec ps) (supplyKept (spec .supply) ps) (demandMet (spec .demand) ps)
 unfolding cycleNumber
 cycle-said spec ps = said (countIn (length ps)) _ _ _ _
 
@@ -89,13 +89,13 @@ pub passed-obeys : (spec : Spec) (ps : List Pair) → IsAccepted spec → 1 ≤ 
 passed-obeys spec ps accepted some few = (
   λ e.
       let t = cycle-said spec ps .is-0 (sym (gets-cycle spec ps accepted) ∙ e) in
-      let g = gaps-right ps some spec .0 (t .0) in
+      let g = gaps-right ps some spec .0 (t .1) in
       let later : (i : ℕ) → 1 ≤ cycleRun ps .gap i = λ i. gap-allowed-pos spec (cycleRun ps .gap i) accepted (g i) in
       record {
-        sizes = sizes-right ps some spec .0 (t .1);
+        sizes = sizes-right ps some spec .0 (t .2);
         gaps = g;
-        supply = supply-right ps some later (spec .supply) .0 (t .2);
-        demand = demand-right ps some later (spec .demand) .0 (t .3);
+        supply = supply-right ps some later (spec .supply) .0 (t .3);
+        demand = demand-right ps some later (spec .demand) .0 (t .4);
       },
   λ o.
       let later : (i : ℕ) → 1 ≤ cycleRun ps .gap i = λ i. gap-allowed-pos spec (cycleRun ps .gap i) accepted (o .gaps i) in
@@ -106,3 +106,20 @@ passed-obeys spec ps accepted some few = (
       (supply-right ps some later (spec .supply) .1 (o .supply))
       (demand-right ps some later (spec .demand) .1 (o .demand))),
 )
+
+-- only an accepted specification passes a cycle, and only one of 1 to 512 pairs, none of which has more than 1,000 records
+module _ (spec : Spec) (ps : List Pair) (passed : checkNumber spec ps ≡ 0) where
+  own : IsAccepted spec × (cycleNumber spec ps ≡ 0)
+  unfolding checkNumber
+  own = went-on (specNumber spec) (cycleNumber spec ps) (λ m. m) 0 (λ some z. some z) passed
+
+  pub passed-accepted : IsAccepted spec
+  passed-accepted = own .0
+
+  pub passed-count : (1 ≤ length ps) × (length ps ≤ 512)
+  passed-count = between-iff 1 512 (length ps) .0 (cycle-said spec ps .is-0 (own .1) .0)
+
+  pub passed-size : (i : ℕ) → cycleRun ps .size i ≤ 1000
+  passed-size i =
+      let o = passed-obeys spec ps passed-accepted (passed-count .0) (passed-count .1) .0 passed in
+      omega (arith, size-allowed-iff spec (cycleRun ps .size i) .0 (o .sizes i), facts spec passed-accepted .size-high)

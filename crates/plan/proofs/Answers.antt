@@ -1,7 +1,8 @@
 -- The cases of `reportOf`, of `countOf` and of the records of the first n reports, by what the code has found.
 use Prim.Native.Nat.{ℕ, _*_, _/_}
-use mathlib.Core.Path.{_≡_}
-use mathlib.Core.Bool.{true, false}
+use native.Mathlib.Omega.{arith}
+use mathlib.Core.Path.{_≡_, refl}
+use mathlib.Core.Bool.{Bool, true, false, cond}
 use Rattle.schedule.specs.Schedules.{sum, minute}
 use Rattle.schedule.proofs.Sums.{sum-const}
 use Rattle.plan.specs.declared.Kind.the-variants.{WellFormed, Even}
@@ -35,6 +36,23 @@ module _ (p : Plan) (n : ℕ) where
   pub counted : proper p ≡ true → {x : ℕ} → x ≡ n → Count x ≡ countOf p n
   unfolding countOf
   counted ok e = rw (ok, e)
+
+  -- and back from the answer
+  pub count-refused : {number : ℕ} → countOf p n ≡ NotCounted number → proper p ≡ false
+  unfolding countOf
+  count-refused {number} = by (proper p) refl
+    where
+      by : (b : Bool) → proper p ≡ b → cond b (Count n) (NotCounted 11) ≡ NotCounted number → proper p ≡ false
+      by true ok e = absurd (let z : _≡_ {A = ℕ} 0 1 = cc in omega arith)
+      by false ok e = ok
+
+  pub count-told : {x : ℕ} → countOf p n ≡ Count x → (proper p ≡ true) × (x ≡ n)
+  unfolding countOf
+  count-told {x} = by (proper p) refl
+    where
+      by : (b : Bool) → proper p ≡ b → cond b (Count n) (NotCounted 11) ≡ Count x → (proper p ≡ true) × (x ≡ n)
+      by true ok e = (ok, cc)
+      by false ok e = absurd (let z : _≡_ {A = ℕ} 0 1 = cc in omega arith)
 
 module _ (p : Plan) (n : ℕ) {x : ℕ} where
   pub well-held : p .kind ≡ WellFormed → x ≡ sum (wellSize (p .count) (p .total)) n → x ≡ sum (run p .size) n

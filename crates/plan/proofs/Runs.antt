@@ -3,7 +3,7 @@
 -- fullest, and the gaps shortest, at the start.
 use Prim.Native.Nat.{ℕ, _+_, _-_, _*_, _/_, _%_, _≤_, _<_}
 use native.Mathlib.Omega.{arith}
-use native.Mathlib.Nat.{add-zero, mod-lt, mul-comm, le-mul-of-pos-right, le-trans, mul-le-mul-right}
+use native.Mathlib.Nat.{add-zero, mod-lt, div-add-mod, mul-comm, mul-add, mul-one, mul-zero, le-mul-of-pos-right, le-trans, mul-le-mul-right}
 use mathlib.Core.Path.{_≡_, refl, sym, _∙_}
 use mathlib.Core.Bool.{true}
 use borrow.Author.Tests.{lt-leb, eqb-true}
@@ -18,7 +18,7 @@ use Rattle.plan.specs.declared.Plan.{Plan}
 use Rattle.plan.specs.Plans.{proper, run, kindRun, kindFits, wellGap}
 use Rattle.plan.proofs.Proper.{ProperBounds, proper-bounds, proper-rest}
 use Rattle.plan.proofs.WellFormed.{size-again, size-total, size-range, size-sub, gap-again, gap-total, gap-range, gap-super}
-use Rattle.plan.proofs.EvenSizes.{even-again, even-round, even-sub, even-size-most, even-block-range}
+use Rattle.plan.proofs.EvenSizes.{even-again, even-round, even-sub, even-size-most, even-size-least, even-block-range}
 use Rattle.plan.proofs.Extremes.{fullest-first, thinnest-last}
 
 module _ (k π δ : ℕ) (pos : 0 < k) where
@@ -44,10 +44,10 @@ module _ (k π δ : ℕ) (pos : 0 < k) where
   kind-sub WellFormed j n = size-sub k pos δ j n
   kind-sub Even j n = even-sub k δ pos j n
 
-  kind-most : (t : Kind) (b : ℕ) → δ ≤ k * b → (i : ℕ) → kindRun t k π δ .size i ≤ b
+  kind-range : (t : Kind) (lo hi : ℕ) → k * lo ≤ δ → δ ≤ k * hi → (i : ℕ) → (lo ≤ kindRun t k π δ .size i) × (kindRun t k π δ .size i ≤ hi)
   unfolding kindRun
-  kind-most WellFormed b h i = size-range k pos δ 0 b (omega arith) h i .1
-  kind-most Even b h i = even-size-most k δ pos b i h
+  kind-range WellFormed lo hi a b i = size-range k pos δ lo hi a b i
+  kind-range Even lo hi a b i = (even-size-least k δ pos lo i a, even-size-most k δ pos hi i b)
 
 module _ (p : Plan) (ok : proper p ≡ true) where
   abbrev k : ℕ
@@ -117,14 +117,24 @@ module _ (p : Plan) (ok : proper p ≡ true) where
   unfolding run kindRun
   row-range e i n = rw e (even-block-range k δ (known .some) i n)
 
-  -- no report is larger than 1,000 records, and no two are at one minute
-  pub held-most : (x : ℕ) → stretch (run p) 0 x ≤ x * 1000
+  -- every size is ⌊δ/k⌋ or one more, and none is above 1,000 records
+  run-size-range : (lo hi : ℕ) → k * lo ≤ δ → δ ≤ k * hi → (i : ℕ) → (lo ≤ run p .size i) × (run p .size i ≤ hi)
   unfolding run
+  run-size-range = kind-range k π δ (known .some) (p .kind)
+
+  pub two-sizes : (i : ℕ) → (δ / k ≤ run p .size i) × (run p .size i ≤ δ / k + 1)
+  two-sizes =
+      run-size-range (δ / k) (δ / k + 1) (omega (arith, div-add-mod δ k)) (rw (mul-add, mul-one) (omega (arith, div-add-mod δ k, mod-lt δ (known .some))))
+
+  pub run-size-most : (i : ℕ) → run p .size i ≤ 1000
+  run-size-most i = run-size-range 0 1000 (rw mul-zero (omega arith)) (omega (arith, known .light, mul-comm k 1000)) i .1
+
+  -- and no two reports are at one minute
+  pub held-most : (x : ℕ) → stretch (run p) 0 x ≤ x * 1000
   held-most x =
       let n : reportsBefore (run p) (0 + x) - reportsBefore (run p) 0 ≤ x = omega (arith, before-le (run p) run-later (0 + x)) in
-      let sizes = kind-most k π δ (known .some) (p .kind) 1000 (omega (arith, known .light, mul-comm k 1000)) in
       rw (stretch-before (run p) run-later 0 x)
-      (le-trans (block-most (run p .size) 1000 sizes (reportsBefore (run p) 0) (reportsBefore (run p) (0 + x) - reportsBefore (run p) 0)) (mul-le-mul-right 1000 n))
+      (le-trans (block-most (run p .size) 1000 run-size-most (reportsBefore (run p) 0) (reportsBefore (run p) (0 + x) - reportsBefore (run p) 0)) (mul-le-mul-right 1000 n))
 
   -- no row of reports holds more, or takes less time, than as many from the first on: the fullest stretches are the first, and the thinnest
   -- end with a period

@@ -7,7 +7,7 @@ use native.Mathlib.Numerals.{add-one}
 use mathlib.Core.Path.{_≡_, sym, _∙_, ap}
 use mathlib.Core.Logic.{_↔_, ⊎-elim}
 use Rattle.numbers.proofs.Cases.{lt-cases}
-use Rattle.schedule.specs.Schedules.{Schedule, sum, minute, stretch}
+use Rattle.schedule.specs.Schedules.{Schedule, sum, InRounds, minute, stretch}
 use Rattle.schedule.proofs.Sums.{sum-again, sum-whole, block, block-none, block-more, block-round}
 use Rattle.schedule.proofs.Stretches.{stretch-block}
 use Rattle.schedule.proofs.Before.{reportsBefore, minute-least, minute-rise, before-iff, before-le, stretch-before, stretch-add, fullest-at-report, thinnest-after-report}
@@ -16,12 +16,12 @@ pub minute-again : (s : Schedule) (c : ℕ) → ((i : ℕ) → s .gap (i + c) �
 unfolding minute
 minute-again s c gap-again i = sum-again (s .gap) c gap-again i
 
-module _ (s : Schedule) (later : (i : ℕ) → 1 ≤ s .gap i) (c : ℕ) (size-again : (i : ℕ) → s .size (i + c) ≡ s .size i) (gap-again : (i : ℕ) → s .gap (i + c) ≡ s .gap i) where
-  -- report j stands where report j % c does, j / c rounds later
-  pub minute-first : (j : ℕ) → minute s j ≡ j / c * minute s c + minute s (j % c)
-  unfolding minute
-  minute-first j = sum-whole (s .gap) c gap-again j
+-- report j stands where report j % c does, j / c rounds later
+pub minute-whole : (s : Schedule) (c : ℕ) → ((i : ℕ) → s .gap (i + c) ≡ s .gap i) → InRounds c (minute s)
+unfolding minute
+minute-whole s c gap-again = sum-whole (s .gap) c gap-again
 
+module _ (s : Schedule) (later : (i : ℕ) → 1 ≤ s .gap i) (c : ℕ) (size-again : (i : ℕ) → s .size (i + c) ≡ s .size i) (gap-again : (i : ℕ) → s .gap (i + c) ≡ s .gap i) where
   block-again : (lo n : ℕ) → block (s .size) (lo + c) n ≡ block (s .size) lo n
   block-again lo zero = rw (block-none (s .size) (lo + c), block-none (s .size) lo)
   block-again lo (suc n) =
@@ -89,14 +89,14 @@ module _ (s : Schedule) (later : (i : ℕ) → 1 ≤ s .gap i) (c : ℕ) (size-a
     pub full-at-report : (w b : ℕ) → ((j : ℕ) → j < c → stretch s (minute s j) w ≤ b) → (a : ℕ) → stretch s a w ≤ b
     full-at-report w b h a =
         let j = reportsBefore s a in
-        let m : minute s j ≡ minute s (j % c) + j / c * minute s c = omega (arith, minute-first j) in
+        let m : minute s j ≡ minute s (j % c) + j / c * minute s c = omega (arith, minute-whole s c gap-again j) in
         let e : stretch s (minute s j) w ≡ stretch s (minute s (j % c)) w = rw m (stretch-rounds (minute s (j % c)) (j / c) w) in
         omega (arith, fullest-at-report s later a w, e, h (j % c) (mod-lt j some))
 
     thin : (w l : ℕ) → ((j : ℕ) → j < c → l ≤ stretch s (minute s j + 1) w) → (a : ℕ) → 0 < a → l ≤ stretch s a w
     thin w l h a p =
         let j = reportsBefore s a - 1 in
-        let m : minute s j + 1 ≡ minute s (j % c) + 1 + j / c * minute s c = omega (arith, minute-first j) in
+        let m : minute s j + 1 ≡ minute s (j % c) + 1 + j / c * minute s c = omega (arith, minute-whole s c gap-again j) in
         let e : stretch s (minute s j + 1) w ≡ stretch s (minute s (j % c) + 1) w = rw m (stretch-rounds (minute s (j % c) + 1) (j / c) w) in
         omega (arith, thinnest-after-report s later a w p, e, h (j % c) (mod-lt j some))
 

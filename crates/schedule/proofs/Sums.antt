@@ -6,7 +6,7 @@ use native.Mathlib.Nat.{add-assoc, add-zero, zero-add, add-comm, add-right-comm,
 use native.Mathlib.Numerals.{add-one}
 use mathlib.Core.Path.{_≡_, refl, _∙_}
 -- for the crates above, which take it from here
-use Rattle.schedule.specs.Schedules.{sum}
+use Rattle.schedule.specs.Schedules.{sum, InRounds}
 
 pub sum-none : (f : ℕ → ℕ) → sum f 0 ≡ 0
 unfolding sum
@@ -88,7 +88,7 @@ pub block-round : (f : ℕ → ℕ) (c : ℕ) → ((i : ℕ) → f (i + c) ≡ f
 block-round f c h i = omega (arith, sum-add f i c, sum-again f c h i)
 
 -- n / c whole rounds, and what is left
-pub sum-whole : (f : ℕ → ℕ) (c : ℕ) → ((i : ℕ) → f (i + c) ≡ f i) → (n : ℕ) → sum f n ≡ n / c * sum f c + sum f (n % c)
+pub sum-whole : (f : ℕ → ℕ) (c : ℕ) → ((i : ℕ) → f (i + c) ≡ f i) → InRounds c (sum f)
 sum-whole f c h n =
     let e : sum f (n % c + n / c * c) ≡ sum f (n % c) + n / c * sum f c = sum-rounds f c h (n % c) (n / c) in
     let z : n % c + n / c * c ≡ n = mod-add-div' n c in

@@ -1,6 +1,7 @@
 -- Document 01, "The specification", second paragraph: "A schedule is endless. Report 0 is at minute 0. A stretch of n minutes
 -- from a (a at least 0) is minutes a to a + n − 1. It holds, summed, the sizes of the reports at those minutes."
-use Prim.Native.Nat.{ℕ, zero, suc, _+_}
+use Prim.Native.Nat.{ℕ, zero, suc, _+_, _*_, _/_, _%_}
+use mathlib.Core.Path.{_≡_}
 use mathlib.Core.Bool.{Bool, true, false, cond, _&&_}
 use lib.Dec.{leb, ltb}
 
@@ -13,6 +14,10 @@ pub record Schedule : Type 0 where
 unfoldable pub sum : (ℕ → ℕ) → ℕ → ℕ
 sum f zero = 0
 sum f (suc n) = sum f n + f n
+
+-- what adds up round by round, c to a round: over n it is n / c times what it is over c, and what it is over n mod c
+abbrev pub InRounds : ℕ → (ℕ → ℕ) → Type 0
+InRounds c g = (n : ℕ) → g n ≡ n / c * g c + g (n % c)
 
 -- the minute of report i: the sum of the first i gaps
 unfoldable pub minute : Schedule → ℕ → ℕ
