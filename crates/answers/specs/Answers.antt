@@ -12,6 +12,8 @@ use Rattle.plan.specs.declared.moments.Found.the-variants.{Number, Refused as N
 use Rattle.plan.specs.declared.moments.Contents.{Contents}
 use Rattle.plan.specs.declared.moments.Contents.the-variants.{Held, Refused as NotCounted}
 use Rattle.plan.specs.Plans.{planNumbers}
+use Rattle.cost.specs.declared.Bill.{Bill}
+use Rattle.cost.specs.declared.Bill.the-variants.{Due, Refused as NotBilled}
 use Rattle.consistency.specs.declared.Condition.{Condition}
 use Rattle.consistency.specs.declared.Condition.the-variants.{BoundsFitRates, FewestReportsFitBudget, EnoughReportsForDemand, SupplyCoversDemand}
 use Rattle.consistency.specs.declared.Consistency.{Consistency}
@@ -82,6 +84,11 @@ numberAnswer (NotFound n) = refusal n
 abbrev pub contentsAnswer : Contents → Answer
 contentsAnswer (Held reports records) = yields (reports ∷ records ∷ [])
 contentsAnswer (NotCounted n) = refusal n
+
+-- what the first reports cost: tenths of a cent, whole cents; or 11 of a plan, 3, 4, 24, 12 to 16 of a cycle (document 02, Req 08)
+abbrev pub billAnswer : Bill → Answer
+billAnswer (Due tenths cents) = yields (tenths ∷ cents ∷ [])
+billAnswer (NotBilled n) = refusal n
 
 -- What a lent place holds after a call: value i of the answer where the answer's number is `when`, else what it held.
 unfoldable pub heldAfter : (when i : ℕ) → Answer → ℕ → ℕ

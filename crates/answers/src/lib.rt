@@ -2,6 +2,7 @@
 // a lent place where there is one to tell. No place is written on a refusal, but for the condition of an inconsistent specification.
 use consistency::Condition;
 use consistency::Consistency;
+use cost::Bill;
 use even::EvenPlan;
 use families::Scheduled;
 use feasibility::Tested;
@@ -10,7 +11,7 @@ use plan::moments::Contents;
 use plan::moments::Found;
 use spec::refusal;
 ghost use mathlib.Core.Path.{_≡_};
-ghost use Rattle.answers.specs.Answers.{conditionNumber, consistencyAnswer, scheduledAnswer, testedAnswer, evenAnswer, reportAnswer, numberAnswer, contentsAnswer, heldAfter};
+ghost use Rattle.answers.specs.Answers.{conditionNumber, consistencyAnswer, scheduledAnswer, testedAnswer, evenAnswer, reportAnswer, numberAnswer, contentsAnswer, billAnswer, heldAfter};
 
 pub fn condition_number(c: Condition) -> u32
     ensures { λ r. ⌜ r ≡ conditionNumber c ⌝ }
@@ -146,5 +147,23 @@ pub fn contents_answer(found: Contents, reports: &mut u32, records: &mut u64) ->
             0
         }
         Contents::Refused(n) => n,
+    }
+}
+
+pub fn bill_answer(found: Bill, tenths: &mut u64, cents: &mut u64) -> u32
+    ensures { λ r. ⌜ (r ≡ billAnswer found .number)
+        × (now (tenths .exit) ≡ heldAfter 0 0 (billAnswer found) (now (tenths .entry)))
+        × (now (cents .exit) ≡ heldAfter 0 1 (billAnswer found) (now (cents .entry))) ⌝ }
+{
+    match found {
+        Bill::Due {
+            tenths: t,
+            cents: c,
+        } => {
+            *tenths = t;
+            *cents = c;
+            0
+        }
+        Bill::Refused(n) => n,
     }
 }

@@ -13,10 +13,11 @@ use Rattle.spec.specs.declared.Rate.{Rate}
 use Rattle.spec.specs.declared.Rate.the-variants.{Absent, Present}
 use Rattle.spec.specs.declared.Spec.{Spec}
 use Rattle.spec.specs.Limits.{specNumber, IsAccepted}
-use Rattle.spec.proofs.Facts.{between-iff, facts, size-allowed-iff, gap-allowed-pos}
+use Rattle.spec.proofs.Facts.{facts, size-allowed-iff, gap-allowed-pos}
 use Rattle.spec.proofs.GoingOn.{went-on, number-few}
 use Rattle.pairs.specs.declared.Pair.{Pair}
 use Rattle.pairs.specs.Pairs.{countIn}
+use Rattle.pairs.proofs.Counts.{countIn-true}
 use Rattle.schedule.specs.Schedules.{stretch}
 use Rattle.schedule.specs.Rules.{Obeys}
 use Rattle.cycle.specs.Cycles.{cycleRun, round}
@@ -117,7 +118,7 @@ module _ (spec : Spec) (ps : List Pair) (passed : checkNumber spec ps ≡ 0) whe
   passed-accepted = own .0
 
   pub passed-count : (1 ≤ length ps) × (length ps ≤ 512)
-  passed-count = between-iff 1 512 (length ps) .0 (cycle-said spec ps .is-0 (own .1) .0)
+  passed-count = countIn-true (length ps) (cycle-said spec ps .is-0 (own .1) .0)
 
   pub passed-size : (i : ℕ) → cycleRun ps .size i ≤ 1000
   passed-size i =

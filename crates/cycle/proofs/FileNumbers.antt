@@ -22,6 +22,11 @@ unfolding checkFileNumber
 read-accepted ps e = rw e
 
 -- more than 512 pairs get the number of none
+pub fit-check : (spec : Spec) (ps : List Pair) → checkNumber spec (thatFit 512 ps) ≡ checkNumber spec ps
+unfolding checkNumber cycleNumber
+fit-check spec ps = fit-cases 512 ps (λ (qs : List Pair). checkNumber spec qs ≡ checkNumber spec ps) (λ e. refl) (λ e. rw (e, and-false))
+
 pub fit-number : (read : SpecRead) (ps : List Pair) → checkFileNumber read (thatFit 512 ps) ≡ checkFileNumber read ps
-unfolding checkFileNumber checkNumber cycleNumber
-fit-number read ps = fit-cases 512 ps (λ (qs : List Pair). checkFileNumber read qs ≡ checkFileNumber read ps) (λ e. refl) (λ e. rw (e, and-false))
+unfolding checkFileNumber
+fit-number (Accepted spec) ps = fit-check spec ps
+fit-number (Refused n) ps = refl

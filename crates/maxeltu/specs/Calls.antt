@@ -15,7 +15,9 @@ use Rattle.families.specs.declared.Family.{Family}
 use Rattle.families.specs.Families.{scheduleFor}
 use Rattle.feasibility.specs.Test.{testOf}
 use Rattle.even.specs.Even.{evenPlan}
-use Rattle.answers.specs.Answers.{Answer, refusal, consistencyAnswer, scheduledAnswer, testedAnswer, evenAnswer, reportAnswer, numberAnswer, contentsAnswer}
+use Rattle.pairs.specs.declared.Pair.{Pair}
+use Rattle.cost.specs.Bills.{planBill, cycleBill}
+use Rattle.answers.specs.Answers.{Answer, refusal, consistencyAnswer, scheduledAnswer, testedAnswer, evenAnswer, reportAnswer, numberAnswer, contentsAnswer, billAnswer}
 use Rattle.maxeltu.specs.declared.Named.{Named}
 use Rattle.maxeltu.specs.declared.Named.the-variants.{Plan as NamedPlan, NoKind}
 
@@ -51,3 +53,9 @@ nearestCall kind k π δ minute = ifNamed (planNamed kind k π δ) (λ p. number
 
 unfoldable pub betweenCall : (kind k π δ a b : ℕ) → Answer
 betweenCall kind k π δ a b = ifNamed (planNamed kind k π δ) (λ p. contentsAnswer (betweenOf p a b))
+
+unfoldable pub planCostCall : (kind k π δ reports : ℕ) → Answer
+planCostCall kind k π δ reports = ifNamed (planNamed kind k π δ) (λ p. billAnswer (planBill p reports))
+
+unfoldable pub cycleCostCall : List ℕ → List Pair → (reports : ℕ) → Answer
+cycleCostCall bytes ps reports = ifRead (readSpec bytes) (λ s. billAnswer (cycleBill s ps reports)) refusal

@@ -16,14 +16,14 @@ ghost use Prim.Native.Nat.{_/_, min};
 ghost use lib.ListN.{length};
 ghost use Rattle.spec.specs.File.{ifRead, readSpec};
 ghost use Rattle.cycle.specs.Check.{checkFileNumber};
-ghost use Rattle.pairs.specs.Pairs.{flatten, laidOver};
+ghost use Rattle.pairs.specs.Pairs.{flatten, pairsOf, laidOver};
 ghost use Rattle.cyclefile.specs.File.{readCycle, storedPairs, Reads, Writes};
 ghost use Rattle.families.specs.declared.Family.the-variants.{MinimumDemand, MaximumSupply};
 ghost use Rattle.meter.specs.Ring.{fresh, stepped, toldOr};
 ghost use Rattle.answers.specs.Answers.{heldAfter};
 ghost use Rattle.maxeltu.specs.Verdict.{verdictOf};
 ghost use Rattle.maxeltu.specs.InnerPromises.{fileRead, countAfter};
-ghost use Rattle.maxeltu.specs.Calls.{consistencyCall, scheduleCall, testCall, evenCall, planNamed, reportCall, lastCall, nearestCall, betweenCall};
+ghost use Rattle.maxeltu.specs.Calls.{consistencyCall, scheduleCall, testCall, evenCall, planNamed, reportCall, lastCall, nearestCall, betweenCall, planCostCall, cycleCostCall};
 
 // The loader's call: 0 exactly when both files are read and the cycle is passed, or the first number met, the specification's first.
 #[no_mangle]
@@ -263,6 +263,27 @@ pub extern "C" fn maxeltu_between(
     answers::contents_answer(moments::between(p, a, b), reports, records)
 }
 
+// What the first reports of a plan cost.
+#[no_mangle]
+pub extern "C" fn maxeltu_plan_cost(
+    kind: u32,
+    k: u32,
+    period: u32,
+    total: u32,
+    reports: u32,
+    tenths: &mut u64,
+    cents: &mut u64,
+) -> u32
+    ensures { λ r. ⌜ (r ≡ planCostCall kind k period total reports .number)
+        × (now (tenths .exit) ≡ heldAfter 0 0 (planCostCall kind k period total reports) (now (tenths .entry)))
+        × (now (cents .exit) ≡ heldAfter 0 1 (planCostCall kind k period total reports) (now (cents .entry))) ⌝ }
+{
+    let Named::Plan(p) = plan_named(kind, k, period, total) else {
+        return refusal::NOT_PROPER;
+    };
+    answers::bill_answer(cost::plan_cost(p, reports), tenths, cents)
+}
+
 // The number of a lent list of pairs against a specification's file. The list is unpacked once, into the one array that is held, and
 // the flat check called.
 #[no_mangle]
@@ -272,6 +293,43 @@ pub extern "C" fn maxeltu_check_cycle(spec_bytes: &[u8], pairs: &[Pair]) -> u32
     let mut words = [0u16; 1024];
     let used = pairs::unpack(pairs, &mut words);
     cycle::check_file(spec_bytes, &words[..used])
+}
+
+// What the first reports of a cycle that is held flat cost, against a specification's file.
+fn flat_cost(
+    spec_bytes: &[u8],
+    words: &[u16],
+    reports: u32,
+    tenths: &mut u64,
+    cents: &mut u64,
+) -> u32
+    ensures { λ r. ⌜ (r ≡ cycleCostCall (now («spec_bytes» .entry)) (pairsOf (now (words .entry))) reports .number)
+        × (now (tenths .exit) ≡ heldAfter 0 0 (cycleCostCall (now («spec_bytes» .entry)) (pairsOf (now (words .entry))) reports) (now (tenths .entry)))
+        × (now (cents .exit) ≡ heldAfter 0 1 (cycleCostCall (now («spec_bytes» .entry)) (pairsOf (now (words .entry))) reports) (now (cents .entry))) ⌝ }
+{
+    let read = spec::read_spec(spec_bytes);
+    let SpecRead::Accepted(s) = read else {
+        return spec::read_number(read);
+    };
+    answers::bill_answer(cost::cycle_cost(s, words, reports), tenths, cents)
+}
+
+// What the first reports of a lent list of pairs cost, against a specification's file. The list is unpacked once.
+#[no_mangle]
+pub extern "C" fn maxeltu_cycle_cost(
+    spec_bytes: &[u8],
+    pairs: &[Pair],
+    reports: u32,
+    tenths: &mut u64,
+    cents: &mut u64,
+) -> u32
+    ensures { λ r. ⌜ (r ≡ cycleCostCall (now («spec_bytes» .entry)) (now (pairs .entry)) reports .number)
+        × (now (tenths .exit) ≡ heldAfter 0 0 (cycleCostCall (now («spec_bytes» .entry)) (now (pairs .entry)) reports) (now (tenths .entry)))
+        × (now (cents .exit) ≡ heldAfter 0 1 (cycleCostCall (now («spec_bytes» .entry)) (now (pairs .entry)) reports) (now (cents .entry))) ⌝ }
+{
+    let mut words = [0u16; 1024];
+    let used = pairs::unpack(pairs, &mut words);
+    flat_cost(spec_bytes, &words[..used], reports, tenths, cents)
 }
 
 // How many words a cycle file's pairs take, none where it is refused, and the call's answer.
