@@ -20,7 +20,7 @@ use Rattle.plan.specs.declared.Plan.{Plan}
 use Rattle.plan.specs.declared.Reported.the-variants.{At}
 use Rattle.plan.specs.Plans.{proper, run}
 use Rattle.plan.specs.Reports.{reportOf}
-use Rattle.schedule.proofs.Sums.{block}
+use Rattle.schedule.proofs.Sums.{block, sum-whole}
 use Rattle.schedule.proofs.StretchSum.{stretch-is-sum}
 use Rattle.schedule.proofs.Moments.{reports-least}
 use Rattle.plan.proofs.Runs.{report-0-fullest, front-fullest, row-range, row-total}
@@ -34,6 +34,8 @@ use Rattle.pairs.specs.declared.Pair.{Pair}
 use Rattle.cycle.specs.Cycles.{cycleRun}
 use Rattle.cycle.proofs.CyclesPassed.{passed-obeys}
 use Rattle.cycle.proofs.Rounds.{whole-rounds}
+use Rattle.cost.proofs.Rounds.{plan-in-rounds, cycle-in-rounds}
+use Rattle.cost.proofs.Billing.{plan-billed, plan-in-bands, cycle-billed, cycle-in-bands}
 use Rattle.cyclefile.specs.File.{CycleRead, pairs, refused, readCycle, writeNumber, Reads, bytesAfter}
 use Rattle.cyclefile.proofs.RoundTrip.{reads-back, writes-back, reads-cycles}
 use Rattle.cyclefile.proofs.Refusals.{CycleRefusal, cycle-numbered}
@@ -130,6 +132,13 @@ demands = record {
   there-and-back = there-and-back;
   between-sums = between-exact;
   counts-add-up = counts-add-up;
+  repeated-sum = sum-whole;
+  plan-in-rounds = plan-in-rounds;
+  cycle-in-rounds = cycle-in-rounds;
+  plan-billed = plan-billed;
+  cycle-billed = cycle-billed;
+  plan-in-bands = plan-in-bands;
+  cycle-in-bands = cycle-in-bands;
   reads-back = reads-back;
   written-bytes = writes-bytes;
   writes-back = writes-back;

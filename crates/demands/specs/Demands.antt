@@ -16,7 +16,7 @@ use Rattle.spec.specs.Rates.{HasTwoRanges, bothRates}
 use Rattle.spec.specs.declared.SpecRead.the-variants.{Accepted, Refused as NotRead}
 use Rattle.spec.specs.Limits.{limits, order, specNumber, IsAccepted, gapAllowed}
 use Rattle.spec.specs.File.{readSpec}
-use Rattle.schedule.specs.Schedules.{Schedule, sum, minute, stretch, inStretch, share}
+use Rattle.schedule.specs.Schedules.{Schedule, sum, InRounds, minute, stretch, inStretch, share}
 use Rattle.schedule.specs.Moments.{IsLast, IsNearest, counted}
 use Rattle.schedule.specs.Rules.{Obeys}
 use Rattle.plan.specs.declared.Kind.the-variants.{Even}
@@ -41,6 +41,9 @@ use Rattle.even.specs.Even.{evenPlan, evenly}
 use Rattle.pairs.specs.declared.Pair.{Pair}
 use Rattle.cycle.specs.Cycles.{pairGap, cycleRun, round, roundRecords}
 use Rattle.cycle.specs.Check.{checkNumber}
+use Rattle.cost.specs.declared.Bill.the-variants.{Due}
+use Rattle.cost.specs.Prices.{charge, FirstBand, tenths, cents}
+use Rattle.cost.specs.Bills.{planBill, cycleBill}
 use Rattle.cyclefile.specs.File.{pairs, refused, cycleBytes, readCycle, writeNumber, Reads, bytesAfter, AreBytes, Words}
 use Rattle.meter.specs.declared.Meter.{Meter}
 use Rattle.meter.specs.Plain.{Report, recordsAt, endingWith, plainAnswers, acceptedOnto}
@@ -136,6 +139,21 @@ pub record Demands : Type 0 where
       × ((more : ℕ) → (reports ≡ sum (share (counted (run p)) a (b - a)) (b + more)) × (records ≡ sum (share (run p) a (b - a)) (b + more)))))
   -- from a to b and from b to c is from a to c
   pub counts-add-up : (p : Plan) (a b c n d n′ d′ : ℕ) → betweenOf p a b ≡ Held n d → betweenOf p b c ≡ Held n′ d′ → betweenOf p a c ≡ Held (n + n′) (d + d′)
+  -- What a plan costs (document 02, Req 08). Of numbers that repeat after c, the sum over n is n / c times the sum over c, and the sum over
+  -- n mod c. By this one law go the charges, the records and the minutes of the first n reports, of every proper plan and of every cycle.
+  pub repeated-sum : (f : ℕ → ℕ) (c : ℕ) → ((i : ℕ) → f (i + c) ≡ f i) → InRounds c (sum f)
+  pub plan-in-rounds : (p : Plan) → proper p ≡ true
+      → InRounds (p .count) (tenths (run p)) × InRounds (p .count) (sum (run p .size)) × InRounds (p .count) (minute (run p))
+  pub cycle-in-rounds : (c : List Pair)
+      → InRounds (length c) (tenths (cycleRun c)) × InRounds (length c) (sum (cycleRun c .size)) × InRounds (length c) (minute (cycleRun c))
+  -- a bill is told of every proper plan and of every cycle that is passed, and of no other
+  pub plan-billed : (p : Plan) (n t m : ℕ) → (planBill p n ≡ Due t m) ↔ ((proper p ≡ true) × (t ≡ tenths (run p) n) × (m ≡ cents t))
+  pub cycle-billed : (s : Spec) (c : List Pair) (n t m : ℕ)
+      → (cycleBill s c n ≡ Due t m) ↔ ((checkNumber s c ≡ 0) × (t ≡ tenths (cycleRun c) n) × (m ≡ cents t))
+  -- no report that is billed is above the last band: each is charged the price of the first band that its size does not exceed
+  pub plan-in-bands : (p : Plan) (n t m : ℕ) → planBill p n ≡ Due t m → (i : ℕ) → FirstBand (run p .size i) (charge (run p .size i))
+  pub cycle-in-bands : (s : Spec) (c : List Pair) (n t m : ℕ) → cycleBill s c n ≡ Due t m → (i : ℕ)
+      → FirstBand (cycleRun c .size i) (charge (cycleRun c .size i))
   -- a written cycle reads back as itself
   pub reads-back : (places : ℕ) (c : List Pair) → 1 ≤ length c → length c ≤ 512 → length c ≤ places → readCycle places (cycleBytes c) ≡ pairs c
   -- what is written of 16-bit numbers is made of bytes

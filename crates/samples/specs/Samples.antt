@@ -1,6 +1,6 @@
 -- Document 01, "Samples": those marked ★ as one table, and one proof that the definitions give every value that it prints. The sizes of
--- B with 15 are those of document 02, Req 02, and its offers those of Req 03; what F gets is that of Req 07; the way back from minutes, of
--- Req 05, and F with B = 15 are ours.
+-- B with 15 are those of document 02, Req 02, its offers those of Req 03, and what four reports of it cost that of Req 08; what F gets is
+-- that of Req 07; the way back from minutes, of Req 05, the other bills, and F with B = 15 are ours.
 use Prim.Native.Nat.{ℕ, _+_, _*_}
 use mathlib.Core.Path.{_≡_, refl}
 use mathlib.Core.List.{List, [], _∷_, _++_}
@@ -34,10 +34,13 @@ use Rattle.feasibility.specs.Test.{testOf, testConsistent, testTaken, figurePas
 use Rattle.even.specs.declared.EvenPlan.{EvenPlan}
 use Rattle.even.specs.declared.EvenPlan.the-variants.{Found, Refused}
 use Rattle.even.specs.Even.{evenPlan, planOr10, evenPlanAt, evenGap, largest, fits, supplyFits, demandFits, totalOf, countAt}
-use Rattle.answers.specs.Answers.{Answer, consistencyAnswer, scheduledAnswer, testedAnswer, evenAnswer, numberAnswer, contentsAnswer}
+use Rattle.answers.specs.Answers.{Answer, consistencyAnswer, scheduledAnswer, testedAnswer, evenAnswer, numberAnswer, contentsAnswer, billAnswer}
 use Rattle.pairs.specs.declared.Pair.{Pair}
 use Rattle.cycle.specs.Cycles.{pairGap, pairSize, cycleRun, round}
 use Rattle.cycle.specs.Check.{checkNumber, cycleNumber, gapsAllowed, sizesAllowed, supplyKept, demandMet}
+use Rattle.cost.specs.declared.Bill.{Bill}
+use Rattle.cost.specs.Prices.{priceIn, charge, tenths}
+use Rattle.cost.specs.Bills.{planBill, cycleBill}
 use Rattle.meter.specs.declared.Left.{Left}
 use Rattle.meter.specs.declared.Left.the-variants.{Untold, Records}
 use Rattle.meter.specs.declared.Answer.{Answer as OfferAnswer}
@@ -66,7 +69,11 @@ pub data Claim : Type 0 where
   minimumDemandBetween : (k a b reports records : ℕ) → Claim
   evenMinute : (minute last nearest : ℕ) → Claim
   evenBetween : (a b reports records : ℕ) → Claim
+  minimumDemandCosts : (k reports tenths cents : ℕ) → Claim
+  evenCosts : (reports tenths cents : ℕ) → Claim
   cycleGets : (cycle : List Pair) (number : ℕ) → Claim
+  cycleCosts : (cycle : List Pair) (reports tenths cents : ℕ) → Claim
+  cycleNotBilled : (cycle : List Pair) (reports number : ℕ) → Claim
   offersGet : (offers : List Offer) → Claim
   isReadFrom : (file : List ℕ) → Claim
 
@@ -104,6 +111,10 @@ minuteIs p m i j = answerIs (numberAnswer (lastOf p m)) 0 (i ∷ []) && answerIs
 
 betweenIs : Plan → (a b reports records : ℕ) → Bool
 betweenIs p a b n d = answerIs (contentsAnswer (betweenOf p a b)) 0 (n ∷ d ∷ [])
+
+-- what the first reports cost
+billIs : Bill → (tenths cents : ℕ) → Bool
+billIs b t c = answerIs (billAnswer b) 0 (t ∷ c ∷ [])
 
 -- of the plan of a schedule, and of an even plan
 ofSchedule : Scheduled → (Plan → Bool) → Bool
@@ -165,7 +176,11 @@ claimHolds s (minimumDemandMinute k m i j) = ofSchedule (scheduleFor MinimumDema
 claimHolds s (minimumDemandBetween k a b n d) = ofSchedule (scheduleFor MinimumDemand s k) (λ p. betweenIs p a b n d)
 claimHolds s (evenMinute m i j) = ofEven (evenPlan s) (λ p. minuteIs p m i j)
 claimHolds s (evenBetween a b n d) = ofEven (evenPlan s) (λ p. betweenIs p a b n d)
+claimHolds s (minimumDemandCosts k n t c) = ofSchedule (scheduleFor MinimumDemand s k) (λ p. billIs (planBill p n) t c)
+claimHolds s (evenCosts n t c) = ofEven (evenPlan s) (λ p. billIs (planBill p n) t c)
 claimHolds s (cycleGets c n) = eqb (checkNumber s c) n
+claimHolds s (cycleCosts ps n t c) = billIs (cycleBill s ps n) t c
+claimHolds s (cycleNotBilled ps n number) = answerIs (billAnswer (cycleBill s ps n)) number []
 claimHolds s (offersGet offers) = answersAre (plainAnswers s [] (offered offers)) offers
 claimHolds s (isReadFrom file) = readTo (readSpec file) s
 
@@ -216,6 +231,7 @@ samples =
     ∷ minimumDemandMinute 3 27 0 1
     ∷ minimumDemandMinute 3 157 2 3
     ∷ minimumDemandBetween 3 52 158 2 11
+    ∷ minimumDemandCosts 3 4 56 6
     ∷ testPasses 3 158 17 29
     ∷ evenGives 52 3 17 ∷ [])
     ∷ sample 3 10 45 55 28 220 17 158 (testRefuses 9 ∷ evenRefuses 10 ∷ [])
@@ -230,8 +246,14 @@ samples =
     ∷ evenMinute 12 2 2
     ∷ evenMinute 13 2 3
     ∷ evenBetween 5 25 4 10
+    ∷ evenCosts 0 0 0
+    ∷ evenCosts 4 26 3
+    ∷ evenCosts 5 34 3
+    ∷ evenCosts 10 65 7
     ∷ cycleGets (cycle 5 (3 ∷ 2 ∷ [])) 0
+    ∷ cycleCosts (cycle 5 (3 ∷ 2 ∷ [])) 5 34 3
     ∷ cycleGets (cycle 5 (3 ∷ 3 ∷ 2 ∷ 2 ∷ [])) 15
+    ∷ cycleNotBilled (cycle 5 (3 ∷ 3 ∷ 2 ∷ 2 ∷ [])) 0 15
     ∷ cycleGets (cycle 5 (2 ∷ 2 ∷ 2 ∷ 3 ∷ [])) 16
     ∷ offersGet (
     offer 9 4 14 15
@@ -275,5 +297,5 @@ samplesHold (x ∷ xs) = claimsHold (x .spec) (x .claims) && samplesHold xs
 
 -- Every value of the table is what the definitions compute.
 pub samples-hold : samplesHold samples ≡ true
-unfolding samplesHold samples sample sampleWith cycle offer offered leftIs answersAre claimsHold claimHolds same answerIs reportIs reportsAre wellFormed even minuteIs betweenIs ofSchedule ofEven sameRate sameRange readTo specNumber firstNumber limits order rateLimits rangeLimits rangeOrder startsAbove inRange sizeAllowed gapAllowed topOf readSpec ifNone secondNumber oneRangeNumber started sum minute heldFrom stretch proper run kindRun wellSize wellGap evenFirst evenSize reportOf numberOf betweenOf greatest lastReport firstLeast nearestReport reportsFrom recordsFrom consistencyOf conditionsOf boundsFitRates sizeFitsBudget gapFitsDemand demandFitsDuration fewestReportsFitBudget enoughReportsForDemand supplyCoversDemand whereRate whereRange ceil scheduleFor bothRates ratesFrom scheduled exists planFor supplyFigure required available least testOf testConsistent testTaken figurePasses taken firstCount lastCount scheduleWith takenFrom betterOf isBetter familyOf evenPlan planOr10 evenPlanAt evenGap largest fits supplyFits demandFits totalOf countAt pairGap pairSize cycleRun round checkNumber cycleNumber gapsAllowed sizesAllowed supplyKept demandMet all countedAt tooEarly overBudget noPlace offerNumber after later budgetLeft offerAnswer plainAnswers
+unfolding samplesHold samples sample sampleWith cycle offer offered leftIs answersAre claimsHold claimHolds same answerIs reportIs reportsAre wellFormed even minuteIs betweenIs billIs ofSchedule ofEven sameRate sameRange readTo specNumber firstNumber limits order rateLimits rangeLimits rangeOrder startsAbove inRange sizeAllowed gapAllowed topOf readSpec ifNone secondNumber oneRangeNumber started sum minute heldFrom stretch proper run kindRun wellSize wellGap evenFirst evenSize reportOf numberOf betweenOf greatest lastReport firstLeast nearestReport reportsFrom recordsFrom consistencyOf conditionsOf boundsFitRates sizeFitsBudget gapFitsDemand demandFitsDuration fewestReportsFitBudget enoughReportsForDemand supplyCoversDemand whereRate whereRange ceil scheduleFor bothRates ratesFrom scheduled exists planFor supplyFigure required available least testOf testConsistent testTaken figurePasses taken firstCount lastCount scheduleWith takenFrom betterOf isBetter familyOf evenPlan planOr10 evenPlanAt evenGap largest fits supplyFits demandFits totalOf countAt pairGap pairSize cycleRun round checkNumber cycleNumber gapsAllowed sizesAllowed supplyKept demandMet all priceIn charge tenths planBill cycleBill countedAt tooEarly overBudget noPlace offerNumber after later budgetLeft offerAnswer plainAnswers
 samples-hold = refl

@@ -2,6 +2,7 @@
 // `samples` has the same samples as a table, with one proof that the definitions give every value.
 use consistency::Condition;
 use consistency::Consistency;
+use cost::Bill;
 use even::EvenPlan;
 use families::Family;
 use families::Scheduled;
@@ -223,6 +224,33 @@ fn between(p: Plan, a: u32, b: u32) {
     end();
 }
 
+// Tenths of a cent and whole cents.
+fn bill(due: Bill) {
+    match due {
+        Bill::Due { tenths, cents } => {
+            number(tenths);
+            number(cents);
+            end();
+        }
+        Bill::Refused(n) => {
+            refused(n);
+        }
+    }
+}
+
+// A number of reports, and what so many first ones cost.
+fn plan_cost(p: Plan, n: u32) {
+    text(b"  cost of");
+    number(n as u64);
+    bill(cost::plan_cost(p, n));
+}
+
+fn cycle_cost(s: Spec, words: &[u16], n: u32) {
+    text(b"  cycle cost of");
+    number(n as u64);
+    bill(cost::cycle_cost(s, words, n));
+}
+
 // The number of a cycle: gap, size, gap, size, ..
 fn cycle(s: Spec, words: &[u16]) {
     text(b"  cycle");
@@ -247,6 +275,7 @@ fn sample_a() {
     minute(p, 27);
     minute(p, 157);
     between(p, 52, 158);
+    plan_cost(p, 4);
 }
 
 fn sample_a_with_28() {
@@ -296,6 +325,14 @@ fn offers(s: Spec) {
     end();
 }
 
+// What the even plan of B with 15 costs: of ten reports half a cent goes up.
+fn bills(p: Plan) {
+    plan_cost(p, 0);
+    plan_cost(p, 4);
+    plan_cost(p, 5);
+    plan_cost(p, 10);
+}
+
 // B with 15, from its file, the cycles of G, and offers to a meter.
 fn sample_g() {
     text(b"B with B = 15, G\n");
@@ -316,8 +353,11 @@ fn sample_g() {
     minute(p, 12);
     minute(p, 13);
     between(p, 5, 25);
+    bills(p);
     cycle(s, &[5, 3, 5, 2]);
+    cycle_cost(s, &[5, 3, 5, 2], 5);
     cycle(s, &[5, 3, 5, 3, 5, 2, 5, 2]);
+    cycle_cost(s, &[5, 3, 5, 3, 5, 2, 5, 2], 0);
     cycle(s, &[5, 2, 5, 2, 5, 2, 5, 3]);
     offers(s);
 }
