@@ -1,6 +1,6 @@
 /*
  * Included before plain.c where it is linked beside the library: the same
- * fifteen functions under names of their own.
+ * seventeen functions under names of their own.
  */
 #define maxeltu_verdict plain_verdict
 #define maxeltu_consistency plain_consistency
@@ -12,7 +12,9 @@
 #define maxeltu_last_report plain_last_report
 #define maxeltu_nearest_report plain_nearest_report
 #define maxeltu_between plain_between
+#define maxeltu_plan_cost plain_plan_cost
 #define maxeltu_check_cycle plain_check_cycle
+#define maxeltu_cycle_cost plain_cycle_cost
 #define maxeltu_read_cycle plain_read_cycle
 #define maxeltu_write_cycle plain_write_cycle
 #define maxeltu_make_meter plain_make_meter

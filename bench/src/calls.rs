@@ -8,7 +8,9 @@ type EvenPlan = unsafe extern "C" fn(*const u8, usize, *mut u32, *mut u32, *mut 
 type Report = unsafe extern "C" fn(u32, u32, u32, u32, u32, *mut u64, *mut u32) -> u32;
 type ReportAt = unsafe extern "C" fn(u32, u32, u32, u32, u32, *mut u32) -> u32;
 type Between = unsafe extern "C" fn(u32, u32, u32, u32, u32, u32, *mut u32, *mut u64) -> u32;
+type PlanCost = unsafe extern "C" fn(u32, u32, u32, u32, u32, *mut u64, *mut u64) -> u32;
 type CheckCycle = unsafe extern "C" fn(*const u8, usize, *const Pair, usize) -> u32;
+type CycleCost = unsafe extern "C" fn(*const u8, usize, *const Pair, usize, u32, *mut u64, *mut u64) -> u32;
 type ReadCycle = unsafe extern "C" fn(*const u8, usize, *mut Pair, usize, *mut u32) -> u32;
 type WriteCycle = unsafe extern "C" fn(*const Pair, usize, *mut u8, usize, *mut u32) -> u32;
 type MakeMeter = unsafe extern "C" fn(*const u8, usize, *mut Meter) -> u32;
@@ -26,7 +28,8 @@ impl Meter {
 macro_rules! declare {
     (
         $verdict:ident $test:ident $even_plan:ident $report:ident $last_report:ident $nearest_report:ident $between:ident
-        $check_cycle:ident $read_cycle:ident $write_cycle:ident $make_meter:ident $offer:ident
+        $plan_cost:ident $check_cycle:ident $cycle_cost:ident $read_cycle:ident $write_cycle:ident
+        $make_meter:ident $offer:ident
     ) => {
         extern "C" {
             fn $verdict(spec: *const u8, spec_len: usize, cycle: *const u8, cycle_len: usize) -> u32;
@@ -36,7 +39,9 @@ macro_rules! declare {
             fn $last_report(kind: u32, k: u32, period: u32, total: u32, minute: u32, number: *mut u32) -> u32;
             fn $nearest_report(kind: u32, k: u32, period: u32, total: u32, minute: u32, number: *mut u32) -> u32;
             fn $between(kind: u32, k: u32, period: u32, total: u32, a: u32, b: u32, reports: *mut u32, records: *mut u64) -> u32;
+            fn $plan_cost(kind: u32, k: u32, period: u32, total: u32, reports: u32, tenths: *mut u64, cents: *mut u64) -> u32;
             fn $check_cycle(spec: *const u8, spec_len: usize, pairs: *const Pair, count: usize) -> u32;
+            fn $cycle_cost(spec: *const u8, spec_len: usize, pairs: *const Pair, count: usize, reports: u32, tenths: *mut u64, cents: *mut u64) -> u32;
             fn $read_cycle(file: *const u8, file_len: usize, pairs: *mut Pair, places: usize, count: *mut u32) -> u32;
             fn $write_cycle(pairs: *const Pair, count: usize, file: *mut u8, room: usize, written: *mut u32) -> u32;
             fn $make_meter(spec: *const u8, spec_len: usize, meter: *mut Meter) -> u32;
@@ -47,11 +52,13 @@ macro_rules! declare {
 
 declare!(
     maxeltu_verdict maxeltu_test maxeltu_even_plan maxeltu_report maxeltu_last_report maxeltu_nearest_report maxeltu_between
-    maxeltu_check_cycle maxeltu_read_cycle maxeltu_write_cycle maxeltu_make_meter maxeltu_offer
+    maxeltu_plan_cost maxeltu_check_cycle maxeltu_cycle_cost maxeltu_read_cycle maxeltu_write_cycle
+    maxeltu_make_meter maxeltu_offer
 );
 declare!(
     plain_verdict plain_test plain_even_plan plain_report plain_last_report plain_nearest_report plain_between
-    plain_check_cycle plain_read_cycle plain_write_cycle plain_make_meter plain_offer
+    plain_plan_cost plain_check_cycle plain_cycle_cost plain_read_cycle plain_write_cycle
+    plain_make_meter plain_offer
 );
 
 pub struct Calls {
@@ -62,7 +69,9 @@ pub struct Calls {
     last_report: ReportAt,
     nearest_report: ReportAt,
     between: Between,
+    plan_cost: PlanCost,
     check_cycle: CheckCycle,
+    cycle_cost: CycleCost,
     read_cycle: ReadCycle,
     write_cycle: WriteCycle,
     make_meter: MakeMeter,
@@ -77,7 +86,9 @@ pub const LIBRARY: Calls = Calls {
     last_report: maxeltu_last_report,
     nearest_report: maxeltu_nearest_report,
     between: maxeltu_between,
+    plan_cost: maxeltu_plan_cost,
     check_cycle: maxeltu_check_cycle,
+    cycle_cost: maxeltu_cycle_cost,
     read_cycle: maxeltu_read_cycle,
     write_cycle: maxeltu_write_cycle,
     make_meter: maxeltu_make_meter,
@@ -92,7 +103,9 @@ pub const PLAIN_C: Calls = Calls {
     last_report: plain_last_report,
     nearest_report: plain_nearest_report,
     between: plain_between,
+    plan_cost: plain_plan_cost,
     check_cycle: plain_check_cycle,
+    cycle_cost: plain_cycle_cost,
     read_cycle: plain_read_cycle,
     write_cycle: plain_write_cycle,
     make_meter: plain_make_meter,
@@ -141,8 +154,23 @@ impl Calls {
         (reports, records)
     }
 
+    /// Tenths and cents, of a proper plan.
+    pub fn plan_cost(&self, kind: u32, [k, period, total]: [u32; 3], reports: u32) -> (u64, u64) {
+        let (mut tenths, mut cents) = (0, 0);
+        assert_eq!(unsafe { (self.plan_cost)(kind, k, period, total, reports, &mut tenths, &mut cents) }, 0);
+        (tenths, cents)
+    }
+
     pub fn check_cycle(&self, spec: &[u8], pairs: &[Pair]) -> u32 {
         unsafe { (self.check_cycle)(spec.as_ptr(), spec.len(), pairs.as_ptr(), pairs.len()) }
+    }
+
+    /// Tenths and cents, of a cycle that is passed.
+    pub fn cycle_cost(&self, spec: &[u8], pairs: &[Pair], reports: u32) -> (u64, u64) {
+        let (mut tenths, mut cents) = (0, 0);
+        let (at, list) = (spec.as_ptr(), pairs.as_ptr());
+        assert_eq!(unsafe { (self.cycle_cost)(at, spec.len(), list, pairs.len(), reports, &mut tenths, &mut cents) }, 0);
+        (tenths, cents)
     }
 
     pub fn read_cycle(&self, file: &[u8], places: &mut [Pair]) -> u32 {

@@ -1,6 +1,7 @@
 //! The same inputs through the library, the plain C version and the literal reference: times and ratios. Never a test.
 
 mod calls;
+mod costs;
 mod meters;
 mod moments;
 mod windows;
@@ -187,6 +188,7 @@ fn main() {
     plans();
     reports();
     moments::all();
+    costs::all();
     meters::all();
     windows::all();
 }

@@ -1,6 +1,6 @@
 /*
- * The fifteen calls from C, through include/maxeltu.h: the samples, every refusal
- * of every call, and the places that a call must leave as they were.
+ * The seventeen calls from C, through include/maxeltu.h: the samples, every
+ * refusal of every call, and the places that a call must leave as they were.
  *
  * Prints a line for each group, whose name starts with the argument if there is
  * one, and at the end 'N passed, M failed'. Exit status 0 if none failed.
@@ -146,6 +146,30 @@ static uint32_t between(uint32_t kind, uint32_t k, uint32_t period, uint32_t tot
     return maxeltu_between(kind, k, period, total, a, b, &places[0], &records[1]);
 }
 
+/* Tenths and cents come between two numbers that must stay. */
+static uint64_t bill[4];
+static const uint64_t bill_held[4] = { 0x0F1E2D3C4B5A6978, 0x8796A5B4C3D2E1F0, 0x13579BDF02468ACE, 0xECA86420FDB97531 };
+
+static void fill_bill(void) { memcpy(bill, bill_held, sizeof bill); }
+static bool bill_untouched(void) { return memcmp(bill, bill_held, sizeof bill) == 0; }
+
+static bool bill_holds(uint64_t tenths, uint64_t cents)
+{
+    return bill[1] == tenths && bill[2] == cents && bill[0] == bill_held[0] && bill[3] == bill_held[3];
+}
+
+static uint32_t plan_cost(uint32_t kind, uint32_t k, uint32_t period, uint32_t total, uint32_t reports)
+{
+    fill_bill();
+    return maxeltu_plan_cost(kind, k, period, total, reports, &bill[1], &bill[2]);
+}
+
+static uint32_t cycle_cost(struct spec_file s, const struct maxeltu_pair *cycle, size_t count, uint32_t reports)
+{
+    fill_bill();
+    return maxeltu_cycle_cost(SPEC(s), cycle, count, reports, &bill[1], &bill[2]);
+}
+
 /* A meter between numbers that no call may touch; `former` is what it held before the last call. */
 static struct {
     uint32_t before[4];
@@ -284,13 +308,15 @@ static void samples_of_minutes(void)
     end();
 }
 
-/* The check of a cycle, which the loader's call must repeat of its file. */
+/* The check of a cycle, which the loader's call must repeat of its file, and which says whether its reports have a cost. */
 static uint32_t check_pairs(struct spec_file s, size_t count, const struct maxeltu_pair *cycle)
 {
     uint8_t file[MAXELTU_MAX_CYCLE_FILE];
     uint32_t written, answer = maxeltu_check_cycle(SPEC(s), cycle, count);
     CHECK(maxeltu_write_cycle(cycle, count, file, sizeof file, &written) == 0);
     CHECK(maxeltu_verdict(SPEC(s), file, written) == answer);
+    CHECK(cycle_cost(s, cycle, count, 0) == answer && (answer ? bill_untouched() : bill_holds(0, 0)));
+    CHECK(cycle_cost(s, cycle, count, UINT32_MAX) == answer && bill_untouched() == (answer != 0));
     return answer;
 }
 
@@ -361,6 +387,100 @@ static void sample_of_two_ranges(void)
     end();
 }
 
+/* ---- costs ---- */
+
+static bool plan_costs(uint32_t kind, uint32_t k, uint32_t period, uint32_t total, uint32_t reports,
+                       uint64_t tenths, uint64_t cents)
+{
+    return plan_cost(kind, k, period, total, reports) == MAXELTU_OK && bill_holds(tenths, cents);
+}
+
+static bool cycle_costs(struct spec_file s, const struct maxeltu_pair *cycle, size_t count, uint32_t reports,
+                        uint64_t tenths, uint64_t cents)
+{
+    return cycle_cost(s, cycle, count, reports) == MAXELTU_OK && bill_holds(tenths, cents);
+}
+
+/* What no report costs, the first, the first two and so on. */
+static void samples_of_costs(void)
+{
+    begin("costs: samples A, B and G, and two shifts");
+    static const uint64_t even[][2] = { { 0, 0 }, { 8, 1 }, { 13, 1 }, { 21, 2 }, { 26, 3 }, { 34, 3 }, { 39, 4 } };
+    static const uint64_t well_formed[][2] = { { 0, 0 }, { 8, 1 }, { 16, 2 }, { 21, 2 }, { 26, 3 }, { 34, 3 }, { 42, 4 } };
+    static const struct maxeltu_pair good[] = { { 5, 3 }, { 5, 2 } };
+    for (uint32_t n = 0; n < sizeof even / sizeof *even; n++) {
+        CHECK(plan_costs(MAXELTU_EVEN, 4, 20, 10, n, even[n][0], even[n][1]));
+        CHECK(plan_costs(MAXELTU_WELL_FORMED, 4, 20, 10, n, well_formed[n][0], well_formed[n][1]));
+        CHECK(cycle_costs(sample_b(15), good, 2, n, even[n][0], even[n][1]));
+    }
+    /* Sizes 6, 6 and 5 have one price. */
+    CHECK(plan_costs(MAXELTU_WELL_FORMED, 3, 158, 17, 4, 56, 6));
+    CHECK(plan_costs(MAXELTU_EVEN, 3, 156, 17, 4, 56, 6));
+    static const struct maxeltu_pair shifts[] = { { 15, 5 }, { 15, 5 }, { 5, 4 }, { 90, 8 }, { 60, 8 } };
+    CHECK(cycle_costs(two_shifts(60, 90), shifts, 5, 3, 36, 4));
+    CHECK(cycle_costs(two_shifts(60, 90), shifts, 5, 5, 64, 6));
+    CHECK(cycle_costs(two_shifts(60, 90), shifts, 5, 8, 100, 10));
+    end();
+}
+
+static struct spec_file any_size(void) { return spec_of(3, 4, 1, 1000, 5, 5); }
+
+/* One report of this size, of a plan of either kind and of a cycle. */
+static bool report_costs(uint16_t size, uint64_t tenths, uint64_t cents)
+{
+    struct maxeltu_pair pair = { .gap = 5, .size = size };
+    return plan_costs(MAXELTU_WELL_FORMED, 1, 5, size, 1, tenths, cents)
+        && plan_costs(MAXELTU_EVEN, 1, 5, size, 1, tenths, cents)
+        && cycle_costs(any_size(), &pair, 1, 1, tenths, cents);
+}
+
+static void bands(void)
+{
+    begin("costs: the first and the last size of each band");
+    static const struct {
+        uint16_t first, last;
+        uint64_t tenths, cents;
+    } rows[] = {
+        { 1, 1, 3, 0 }, { 2, 2, 5, 1 }, { 3, 4, 8, 1 }, { 5, 8, 14, 1 }, { 9, 16, 25, 3 }, { 17, 32, 46, 5 },
+        { 33, 64, 85, 9 }, { 65, 125, 150, 15 }, { 126, 250, 280, 28 }, { 251, 500, 530, 53 }, { 501, 1000, 1000, 100 },
+    };
+    for (size_t i = 0; i < sizeof rows / sizeof *rows; i++) {
+        CHECK(report_costs(rows[i].first, rows[i].tenths, rows[i].cents));
+        CHECK(report_costs(rows[i].last, rows[i].tenths, rows[i].cents));
+    }
+    end();
+}
+
+/* 2^32 - 1 is 20,160 * 213,044 + 255, and 512 * 8,388,607 + 511. */
+static void largest_costs(void)
+{
+    begin("costs: 2^32 - 1 reports");
+    for (uint32_t kind = MAXELTU_WELL_FORMED; kind <= MAXELTU_EVEN; kind++) {
+        CHECK(plan_costs(kind, 1, 1, 1, UINT32_MAX, UINT64_C(12884901885), 1288490189));
+        CHECK(plan_costs(kind, 20160, 406425600, 20160, UINT32_MAX, UINT64_C(12884901885), 1288490189));
+        CHECK(plan_costs(kind, 1, 20160, 1000, UINT32_MAX, UINT64_C(4294967295000), UINT64_C(429496729500)));
+        CHECK(plan_costs(kind, 20160, 20160, 20160000, UINT32_MAX, UINT64_C(4294967295000), UINT64_C(429496729500)));
+        CHECK(plan_costs(kind, 20160, 20160, 20161, UINT32_MAX, UINT64_C(12885327975), 1288532798));
+    }
+    /* Half of the reports have 501 records and the others 500: the first half of a period, or every other. */
+    CHECK(plan_costs(MAXELTU_WELL_FORMED, 20160, 20160, 10090080, UINT32_MAX, UINT64_C(3285650040600), UINT64_C(328565004060)));
+    CHECK(plan_costs(MAXELTU_EVEN, 20160, 20160, 10090080, UINT32_MAX, UINT64_C(3285649980910), UINT64_C(328564998091)));
+    struct maxeltu_pair cycle[MAXELTU_MAX_PAIRS + 1];
+    for (size_t i = 0; i < sizeof cycle / sizeof *cycle; i++)
+        cycle[i] = (struct maxeltu_pair){ .gap = 5, .size = 1000 };
+    CHECK(cycle_costs(any_size(), cycle, MAXELTU_MAX_PAIRS, UINT32_MAX, UINT64_C(4294967295000), UINT64_C(429496729500)));
+    CHECK(cycle_costs(any_size(), cycle, 1, UINT32_MAX, UINT64_C(4294967295000), UINT64_C(429496729500)));
+    cycle[MAXELTU_MAX_PAIRS - 1].size = 1;
+    CHECK(cycle_costs(any_size(), cycle, MAXELTU_MAX_PAIRS, UINT32_MAX, UINT64_C(4286603853821), UINT64_C(428660385382)));
+    CHECK(cycle_costs(any_size(), cycle, MAXELTU_MAX_PAIRS, 511, 511000, 51100));
+    CHECK(cycle_costs(any_size(), cycle, MAXELTU_MAX_PAIRS, 512, 511003, 51100));
+    CHECK(cycle_costs(any_size(), cycle, MAXELTU_MAX_PAIRS, 513, 512003, 51200));
+    CHECK(cycle_cost(any_size(), cycle, MAXELTU_MAX_PAIRS + 1, 0) == MAXELTU_COUNT && bill_untouched());
+    CHECK(cycle_cost(any_size(), cycle, MAXELTU_MAX_PAIRS + 1, UINT32_MAX) == MAXELTU_COUNT && bill_untouched());
+    CHECK(cycle_cost(any_size(), cycle, 0, 0) == MAXELTU_COUNT && bill_untouched());
+    end();
+}
+
 /* ---- refusals ---- */
 
 /* Every call that takes a specification answers this, and writes nothing. */
@@ -377,6 +497,8 @@ static void refused_everywhere(struct spec_file s, uint32_t refusal)
     CHECK(even_plan(s) == refusal && untouched());
     CHECK(maxeltu_check_cycle(SPEC(s), &pair, 1) == refusal);
     CHECK(maxeltu_check_cycle(SPEC(s), &pair, 0) == refusal);
+    CHECK(cycle_cost(s, &pair, 1, 0) == refusal && bill_untouched());
+    CHECK(cycle_cost(s, &pair, 0, 4) == refusal && bill_untouched());
     fill_meter(0x5A);
     CHECK(make_meter(s) == refusal && meter_untouched());
 }
@@ -563,6 +685,18 @@ static void refusals_of_minutes(void)
         CHECK(minute_has(kind, 20160, 406425600, 20160000, UINT32_MAX, 213044, 213044));
         CHECK(between_has(kind, 20160, 406425600, 20160000, 0, UINT32_MAX, 213045, 213045000));
     }
+    end();
+}
+
+static void refusals_of_costs(void)
+{
+    begin("refusal 11 of costs");
+    static const uint32_t reports[] = { 0, 1, 4, 20160, UINT32_MAX };
+    for (size_t i = 0; i < sizeof improper / sizeof *improper; i++)
+        for (size_t r = 0; r < sizeof reports / sizeof *reports; r++) {
+            const uint32_t *plan = improper[i];
+            CHECK(plan_cost(plan[0], plan[1], plan[2], plan[3], reports[r]) == MAXELTU_PLAN_IMPROPER && bill_untouched());
+        }
     end();
 }
 
@@ -864,6 +998,7 @@ static void null_for_empty(void)
     CHECK(maxeltu_verdict(SPEC(b15), NULL, 0) == MAXELTU_FILE_CUT);
     CHECK(maxeltu_even_plan(NULL, 0, &places[0], &places[1], &places[2]) == MAXELTU_SPEC_MAP);
     CHECK(maxeltu_check_cycle(SPEC(b15), NULL, 0) == MAXELTU_COUNT);
+    CHECK(cycle_cost(b15, NULL, 0, 4) == MAXELTU_COUNT && bill_untouched());
     CHECK(maxeltu_read_cycle(NULL, 0, NULL, 0, &places[0]) == MAXELTU_FILE_CUT);
     CHECK(maxeltu_read_cycle(BYTES(0, 1, 3, 0, 5, 0, 2), NULL, 0, &places[0]) == MAXELTU_NO_ROOM);
     CHECK(maxeltu_write_cycle(NULL, 0, file, sizeof file, &places[0]) == MAXELTU_COUNT);
@@ -882,11 +1017,15 @@ int main(int argc, char **argv)
     samples_of_minutes();
     samples_of_cycles();
     sample_of_two_ranges();
+    samples_of_costs();
+    bands();
+    largest_costs();
     refusals_of_specifications();
     refusals_of_two_ranges();
     refusals_of_plans();
     refusals_of_reports();
     refusals_of_minutes();
+    refusals_of_costs();
     reading_cycles();
     writing_cycles();
     longest_cycle();

@@ -114,11 +114,17 @@ static void lend(const struct input *input)
 /* ---- calls ---- */
 
 static uint32_t answer, number;
+static uint64_t tenths, cents;
 
 static void verdict(void) { answer = maxeltu_verdict(spec_file, sizeof spec_file, cycle_file, cycle_length); }
 static void check_cycle(void) { answer = maxeltu_check_cycle(spec_file, sizeof spec_file, pairs, count); }
 static void read_cycle(void) { answer = maxeltu_read_cycle(cycle_file, cycle_length, places, COUNT_OF(places), &number); }
 static void write_cycle(void) { answer = maxeltu_write_cycle(pairs, count, bytes, sizeof bytes, &number); }
+
+static void cycle_cost(void)
+{
+    answer = maxeltu_cycle_cost(spec_file, sizeof spec_file, pairs, count, UINT32_MAX, &tenths, &cents);
+}
 
 /* Two functions of our own, behind volatile pointers so that they are called as those of the library are. */
 static uint32_t nothing(void) { return 0; }
@@ -210,6 +216,7 @@ int main(void)
     static const struct call calls[] = {
         { "maxeltu_verdict", verdict, true },
         { "maxeltu_check_cycle", check_cycle, true },
+        { "maxeltu_cycle_cost", cycle_cost, true },
         { "maxeltu_read_cycle", read_cycle, false },
         { "maxeltu_write_cycle", write_cycle, false },
     };

@@ -3,6 +3,7 @@
 use crate::generate::{self, Scale, FULL, MID, SMALL, TINY};
 use crate::group::{same, Runner, Verdict, RUNS};
 use crate::library::{Library, Outcome};
+use crate::plans::{plan_of, some_plan};
 use crate::random::Random;
 use reference::feasibility::{self, Failure};
 use reference::schedule::{obeys, LAID_OUT};
@@ -32,9 +33,11 @@ pub fn hex(bytes: &[u8]) -> String {
 }
 
 /// Places as the reference leaves them: what it writes on success, else what they held.
-pub fn expected<const N: usize>(result: Result<[u64; N], Refusal>, before: [u32; N]) -> Outcome<N> {
+pub fn expected<const N: usize, P: TryFrom<u64>>(result: Result<[u64; N], Refusal>, before: [P; N]) -> Outcome<N, P> {
     match result {
-        Ok(values) => Outcome { answer: 0, places: values.map(|v| u32::try_from(v).expect("a 32-bit number")) },
+        Ok(values) => {
+            Outcome { answer: 0, places: values.map(|v| P::try_from(v).ok().expect("a number that its place can hold")) }
+        }
         Err(answer) => Outcome { answer, places: before },
     }
 }
@@ -290,41 +293,6 @@ fn even_search_case(random: &mut Random, library: &mut Library) -> Verdict {
         }
     }
     same(wanted.answer, library.even_plan(&file, before), wanted, || hex(&file))
-}
-
-/// A plan that is proper, or nearly, with its kind by number.
-pub fn some_plan(random: &mut Random) -> (u32, [u64; 3]) {
-    let kind = random.pick(&[0, 0, 0, 1, 1, 1, 1, 1, 1, 1, 1, 2]);
-    let kind = if kind == 2 { random.pick(&[2, 3, 256, u32::MAX]) } else { kind };
-    let most_k = random.pick(&[1, 4, 12, 100, 20_160]);
-    let k = random.between(1, most_k);
-    let period = match random.below(4) {
-        0 => random.near(k, 1, u64::MAX >> 1),
-        1 => random.near(20_160 * k, 1, u64::MAX >> 1),
-        2 => random.between(k, 12 * k),
-        _ => random.between(k, 20_160 * k),
-    };
-    let period = if kind == 1 && !random.once_in(6) { period - period % k } else { period };
-    let total = match random.below(4) {
-        0 => random.near(k, 1, u64::MAX >> 1),
-        1 => random.near(1_000 * k, 1, u64::MAX >> 1),
-        _ => random.between(k, 1_000 * k),
-    };
-    let k = if random.once_in(20) { random.pick(&[0, 20_161, u64::from(u32::MAX)]) } else { k };
-    if random.once_in(40) {
-        return (kind, std::array::from_fn(|_| random.of_any_length(32)));
-    }
-    (kind, [k, period, total])
-}
-
-/// The plan of these numbers, where its kind is one of the two: a plan of any other is not proper.
-pub fn plan_of(kind: u32, [k, period, total]: [u64; 3]) -> Result<Plan, Refusal> {
-    let kind = match kind {
-        0 => Kind::WellFormed,
-        1 => Kind::Even,
-        _ => return Err(11),
-    };
-    Ok(Plan { kind, k, period, total })
 }
 
 fn report_case(random: &mut Random, library: &mut Library) -> Verdict {

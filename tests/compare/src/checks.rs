@@ -1,9 +1,11 @@
 //! Checks whose answers are written out. Each is made twice: of the library, and of the reference.
 
 use crate::calls::{consistency_outcome, expected};
+use crate::costs::billed;
 use crate::group::Runner;
-use crate::library::{Library, Outcome};
+use crate::library::{Billed, Library, Outcome};
 use crate::ring::{Meter, BYTES};
+use reference::cost::{self, Cost};
 use reference::feasibility::{self, Failure};
 use reference::meter::{Machine, Report};
 use reference::{cycle, even, file, spec, verdict, Kind, Pair, Plan, Spec};
@@ -35,6 +37,7 @@ pub fn with_second(spec: &Spec, second: Numbers) -> Spec {
 
 /// What lent places hold before each call.
 pub const HELD: u32 = 0xA5A5_A5A5;
+pub const HELD_BILL: [u64; 2] = [0xA5A5_A5A5_5A5A_5A5A, 0x5A5A_5A5A_A5A5_A5A5];
 const HELD_PAIR: Pair = Pair { gap: 0xA5A5, size: 0xA5A5 };
 const HELD_BYTE: u8 = 0xA5;
 
@@ -80,6 +83,7 @@ impl Checks {
         let got = (
             library.verdict(file, &[0, 1, 3, 0, 5, 0, 2]),
             library.check_cycle(file, &[Pair { gap: 5, size: 2 }]),
+            [0, 4].map(|reports| library.cycle_cost(file, &[Pair { gap: 5, size: 2 }], reports, HELD_BILL)),
             library.consistency(file, [HELD]),
             library.min_demand(file, 1, [HELD; 3]),
             library.max_supply(file, 1, [HELD; 3]),
@@ -87,9 +91,11 @@ impl Checks {
             library.even_plan(file, [HELD; 3]),
             remade(library, file),
         );
-        let three = expected(Err(wanted), [HELD; 3]);
+        let (one, three, five) =
+            (expected(Err(wanted), [HELD]), expected(Err(wanted), [HELD; 3]), expected(Err(wanted), [HELD; 5]));
+        let bills = [billed(Err(wanted), HELD_BILL); 2];
         let kept = (wanted, true);
-        let all = (wanted, wanted, expected(Err(wanted), [HELD]), three, three, expected(Err(wanted), [HELD; 5]), three, kept);
+        let all = (wanted, wanted, bills, one, three, three, five, three, kept);
         self.holds(format!("library, {name}: {got:?}, not {wanted}"), got == all);
         let read = spec::read(file);
         self.holds(format!("reference, {name}: {read:?}, not {wanted}"), read == Err(wanted));
@@ -202,12 +208,39 @@ impl Checks {
         }
     }
 
+    /// What the first so many reports of a plan cost, tenths and cents.
+    pub fn plan_cost(&mut self, name: &str, plan: Plan, reports: u32, wanted: (u64, u64)) {
+        let (kind, numbers) = handed(&plan);
+        let got = self.library.plan_cost(kind, numbers, reports, HELD_BILL);
+        let reference = if reports < 4_096 { plan.cost_by_walk(reports.into()) } else { plan.cost(reports.into()) };
+        self.cost(&format!("{name}, cost of {reports} reports"), got, reference, wanted);
+    }
+
+    /// The same of a cycle that obeys the specification.
+    pub fn cycle_cost(&mut self, name: &str, spec: &Spec, pairs: &[(u16, u16)], reports: u32, wanted: (u64, u64)) {
+        let pairs = pairs_of(pairs);
+        let got = self.library.cycle_cost(&spec::write(spec), &pairs, reports, HELD_BILL);
+        let priced = if reports < 4_096 { cost::of_cycle_by_walk } else { cost::of_cycle };
+        let reference = priced(spec, &pairs, reports.into());
+        self.cost(&format!("{name}, cost of {reports} reports of the cycle"), got, reference, wanted);
+    }
+
+    fn cost(&mut self, text: &str, library: Billed, reference: Result<Cost, u32>, (tenths, cents): (u64, u64)) {
+        self.both(text, library, billed(reference, HELD_BILL), billed(Ok(Cost { tenths, cents }), HELD_BILL));
+    }
+
     /// A plan that is not proper: every call that takes one gives 11, whatever else it is asked, and writes nothing.
     pub fn improper(&mut self, name: &str, plan: Plan) {
         let (kind, numbers) = handed(&plan);
         self.improper_numbers(name, kind, numbers);
-        let reference = [plan.report(0).err(), plan.last_report(0).err(), plan.nearest_report(0).err(), plan.between(1, 0).err()];
-        self.holds(format!("reference, {name}: {reference:?}, not 11"), reference == [Some(11); 4]);
+        let reference = [
+            plan.report(0).err(),
+            plan.last_report(0).err(),
+            plan.nearest_report(0).err(),
+            plan.between(1, 0).err(),
+            plan.cost(0).err(),
+        ];
+        self.holds(format!("reference, {name}: {reference:?}, not 11"), reference == [Some(11); 5]);
     }
 
     /// A kind that is neither of the two, which the reference does not have.
@@ -217,7 +250,7 @@ impl Checks {
 
     /// What is refused rightly is refused again where nothing can be written.
     fn improper_numbers(&mut self, name: &str, kind: u32, numbers: [u32; 3]) {
-        let (one, three) = (expected(Err(11), [HELD]), expected(Err(11), [HELD; 3]));
+        let (one, three, bill) = (expected(Err(11), [HELD]), expected(Err(11), [HELD; 3]), billed(Err(11), HELD_BILL));
         for minute in [0, 1, 20_160, u32::MAX] {
             let got = (
                 self.library.report(kind, numbers, minute, [HELD; 3]),
@@ -233,17 +266,38 @@ impl Checks {
             let refused = got == three && self.library.refused_between(kind, numbers, minutes) == 11;
             self.holds(format!("library, {name}, between {minutes:?}: {got:?}, not 11"), refused);
         }
+        for reports in [0, 1, 20_160, u32::MAX] {
+            let got = self.library.plan_cost(kind, numbers, reports, HELD_BILL);
+            let refused = got == bill && self.library.refused_plan_cost(kind, numbers, reports) == 11;
+            self.holds(format!("library, {name}, cost of {reports} reports: {got:?}, not 11"), refused);
+        }
     }
 
-    /// The check of a cycle, on its pairs and, where they have a file, through the loader's call.
+    /// The check of a cycle, on its pairs and, where they have a file, through the loader's call. What its reports cost gets the same
+    /// number.
     pub fn cycle(&mut self, name: &str, spec: &Spec, pairs: &[(u16, u16)], wanted: u32) {
         let pairs = pairs_of(pairs);
         let spec_file = spec::write(spec);
         let got = self.library.check_cycle(&spec_file, &pairs);
         let reference = spec::read(&spec_file).map_or_else(|refusal| refusal, |spec| cycle::check(&spec, &pairs));
         self.both(&format!("{name}, check"), got, reference, wanted);
+        for reports in [0, 1, u32::MAX] {
+            self.priced_as_checked(&format!("{name}, cost of {reports} reports"), &spec_file, &pairs, reports, wanted);
+        }
         if let Ok(cycle_file) = file::write(&pairs, usize::MAX) {
             self.verdict(name, spec, &cycle_file, wanted);
+        }
+    }
+
+    /// What is refused is refused again where nothing can be written.
+    fn priced_as_checked(&mut self, text: &str, spec_file: &[u8], pairs: &[Pair], reports: u32, wanted: u32) {
+        let got = self.library.cycle_cost(spec_file, pairs, reports, HELD_BILL);
+        let reference = billed(spec::read(spec_file).and_then(|spec| cost::of_cycle(&spec, pairs, reports.into())), HELD_BILL);
+        self.holds(format!("library, {text}: {got:?}, not {reference:?}"), got == reference);
+        self.holds(format!("reference, {text}: {reference:?}, not {wanted}"), reference.answer == wanted);
+        if wanted != 0 && got == reference {
+            let again = self.library.refused_cycle_cost(spec_file, pairs, reports);
+            self.holds(format!("library, {text} again: {again}"), again == wanted);
         }
     }
 

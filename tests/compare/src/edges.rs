@@ -1,6 +1,6 @@
-//! The edges of document 01's conditions and rules, of document 02's way from a minute back to the report, and of its meter: what is
-//! just kept, and what breaks by one. Every answer is worked out by hand from the documents, and asked of the library and of the
-//! reference.
+//! The edges of document 01's conditions and rules, of document 02's way from a minute back to the report, of its prices and of
+//! its meter: what is just kept, and what breaks by one. Every answer is worked out by hand from the documents, and asked of the
+//! library and of the reference.
 
 use crate::checks::{self, both_rates, demand_only, even, no_rates, supply_only, well, Checks, Offer};
 use crate::group::Runner;
@@ -17,6 +17,10 @@ pub fn all(runner: &mut Runner) {
     checks::group(runner, "cycle files cut off and too long", cut_or_over);
     checks::group(runner, "minutes at, before, after and half way between reports", minutes);
     checks::group(runner, "reports just in and just out between two minutes", between);
+    checks::group(runner, "sizes at a band's end, one below and one above", bands);
+    checks::group(runner, "reports of two sizes at a band's end", two_sizes);
+    checks::group(runner, "bills at half a cent, just below and just above", half_cents);
+    checks::group(runner, "costs of whole rounds, a report less and a report more", whole_rounds);
     checks::group(runner, "offers too early, and of a size out of range", early_or_sized);
     checks::group(runner, "offers that just fit the budget", budgets);
     checks::group(runner, "offers up to the last minute", last_minutes);
@@ -486,6 +490,149 @@ fn between(checks: &mut Checks) {
     ];
     for (name, plan, minutes, wanted) in far {
         checks.between(name, plan, minutes, Ok(wanted));
+    }
+}
+
+/// A specification that passes every cycle of sizes up to 1,000 and gaps of 5.
+fn any_size() -> Spec {
+    no_rates((1, 1_000), (5, 5))
+}
+
+/// What so many reports of one size cost, whatever they are part of.
+fn of_size(checks: &mut Checks, size: u64, reports: u32, wanted: (u64, u64)) {
+    let name = format!("size {size}");
+    for plan in [well(1, 5, size), even(1, 5, size), well(4, 20, 4 * size), even(4, 20, 4 * size)] {
+        checks.plan_cost(&name, plan, reports, wanted);
+    }
+    checks.cycle_cost(&name, &any_size(), &[(5, size as u16)], reports, wanted);
+}
+
+fn bands(checks: &mut Checks) {
+    // Tenths and cents of one report, and sizes that it can have.
+    let rows: [(u64, u64, &[u64]); 11] = [
+        (3, 0, &[1]),
+        (5, 1, &[2]),
+        (8, 1, &[3, 4]),
+        (14, 1, &[5, 7, 8]),
+        (25, 3, &[9, 15, 16]),
+        (46, 5, &[17, 31, 32]),
+        (85, 9, &[33, 63, 64]),
+        (150, 15, &[65, 124, 125]),
+        (280, 28, &[126, 249, 250]),
+        (530, 53, &[251, 499, 500]),
+        (1_000, 100, &[501, 999, 1_000]),
+    ];
+    for (tenths, cents, sizes) in rows {
+        for &size in sizes {
+            of_size(checks, size, 1, (tenths, cents));
+            // Ten reports cost as many cents as one costs tenths.
+            of_size(checks, size, 10, (10 * tenths, tenths));
+        }
+    }
+}
+
+fn two_sizes(checks: &mut Checks) {
+    // The end of a band, its price, and that of the next band.
+    for (end, price, next) in [
+        (1, 3, 5),
+        (2, 5, 8),
+        (4, 8, 14),
+        (8, 14, 25),
+        (16, 25, 46),
+        (32, 46, 85),
+        (64, 85, 150),
+        (125, 150, 280),
+        (250, 280, 530),
+        (500, 530, 1_000),
+    ] {
+        let name = format!("sizes {end} and one more");
+        let cost = |reports: u64, larger: u64| {
+            let tenths = (reports - larger) * price + larger * next;
+            (tenths, (tenths + 5) / 10)
+        };
+        // Of five reports two are larger: the first two, or the first and the third. How many of none, of the first, of the first
+        // two and so on.
+        let total = 5 * end + 2;
+        for (plan, larger) in [
+            (well(5, 25, total), [0, 1, 2, 2, 2, 2, 3, 4, 4, 4, 4, 5]),
+            (even(5, 25, total), [0, 1, 1, 2, 2, 2, 3, 3, 4, 4, 4, 5]),
+        ] {
+            for (reports, larger) in (0..).zip(larger) {
+                checks.plan_cost(&name, plan, reports as u32, cost(reports, larger));
+            }
+        }
+        let pairs = [(5, end as u16), (5, end as u16 + 1), (5, end as u16)];
+        for (reports, larger) in (0..).zip([0, 0, 1, 1, 1, 2, 2]) {
+            checks.cycle_cost(&name, &any_size(), &pairs, reports as u32, cost(reports, larger));
+        }
+    }
+}
+
+fn half_cents(checks: &mut Checks) {
+    // A size, and what no report of it costs, one, two and so on. Sums of 3 tenths have every last digit.
+    let rows: [(u64, &[(u64, u64)]); 5] = [
+        (1, &[(0, 0), (3, 0), (6, 1), (9, 1), (12, 1), (15, 2), (18, 2), (21, 2), (24, 2), (27, 3), (30, 3)]),
+        (2, &[(0, 0), (5, 1), (10, 1), (15, 2), (20, 2)]),
+        (5, &[(0, 0), (14, 1), (28, 3), (42, 4), (56, 6), (70, 7)]),
+        (9, &[(0, 0), (25, 3), (50, 5), (75, 8)]),
+        (17, &[(0, 0), (46, 5), (92, 9), (138, 14), (184, 18), (230, 23)]),
+    ];
+    for (size, wanted) in rows {
+        for (reports, &wanted) in (0..).zip(wanted) {
+            of_size(checks, size, reports, wanted);
+        }
+    }
+}
+
+fn whole_rounds(checks: &mut Checks) {
+    // Sizes 3, 2, 2, of 8, 5 and 5 tenths.
+    for (reports, wanted) in [
+        (2, (13, 1)),
+        (3, (18, 2)),
+        (4, (26, 3)),
+        (5, (31, 3)),
+        (6, (36, 4)),
+        (7, (44, 4)),
+        (2_999_999, (17_999_995, 1_800_000)),
+        (3_000_000, (18_000_000, 1_800_000)),
+        (3_000_001, (18_000_008, 1_800_001)),
+    ] {
+        checks.plan_cost("three reports", well(3, 15, 7), reports, wanted);
+        checks.plan_cost("even, three reports", even(3, 15, 7), reports, wanted);
+        checks.cycle_cost("three reports", &any_size(), &[(5, 3), (5, 2), (5, 2)], reports, wanted);
+    }
+    // Sizes 3, 2, 3, 2, 2.
+    for (reports, wanted) in [
+        (4, (26, 3)),
+        (5, (31, 3)),
+        (6, (39, 4)),
+        (9, (57, 6)),
+        (10, (62, 6)),
+        (11, (70, 7)),
+        (4_999_999, (30_999_995, 3_100_000)),
+        (5_000_000, (31_000_000, 3_100_000)),
+        (5_000_001, (31_000_008, 3_100_001)),
+        (5_000_002, (31_000_013, 3_100_001)),
+    ] {
+        checks.plan_cost("even, five reports", even(5, 25, 12), reports, wanted);
+    }
+    // A size of each band: 2,146 tenths, of which the last report costs 1,000 and the first 3.
+    let each_band = [1, 2, 3, 5, 9, 17, 33, 65, 126, 251, 501].map(|size| (5, size));
+    for (reports, wanted) in [
+        (0, (0, 0)),
+        (1, (3, 0)),
+        (10, (1_146, 115)),
+        (11, (2_146, 215)),
+        (12, (2_149, 215)),
+        (21, (3_292, 329)),
+        (22, (4_292, 429)),
+        (23, (4_295, 430)),
+        (10_999_999, (2_145_999_000, 214_599_900)),
+        (11_000_000, (2_146_000_000, 214_600_000)),
+        (11_000_001, (2_146_000_003, 214_600_000)),
+        (LAST, (837_909_073_528, 83_790_907_353)),
+    ] {
+        checks.cycle_cost("a size of each band", &any_size(), &each_band, reports, wanted);
     }
 }
 

@@ -9,6 +9,7 @@ extern "C" {
     fn mprotect(at: *mut u8, length: usize, protection: i32) -> i32;
 }
 
+const NONE: i32 = 0;
 const READ: i32 = 1;
 const READ_WRITE: i32 = 3;
 const PRIVATE_ANONYMOUS: i32 = 0x22;
@@ -26,7 +27,7 @@ impl<T: Copy + PartialEq> Fence<T> {
         unsafe {
             let base = mmap(std::ptr::null_mut(), (pages + 1) * PAGE, READ_WRITE, PRIVATE_ANONYMOUS, -1, 0);
             assert!(base as isize != -1, "no memory");
-            assert_eq!(mprotect(base.add(pages * PAGE), PAGE, 0), 0);
+            assert_eq!(mprotect(base.add(pages * PAGE), PAGE, NONE), 0);
             Fence { base, pages, kind: PhantomData }
         }
     }
@@ -45,8 +46,17 @@ impl<T: Copy + PartialEq> Fence<T> {
 
     /// The same, and while the call runs nothing there can be written: a call that does stops the run.
     pub fn sealed<R>(&mut self, items: &[T], call: impl FnOnce(*mut T) -> R) -> R {
+        self.protected(READ, items, call)
+    }
+
+    /// The same, and nothing there can be read either.
+    pub fn hidden<R>(&mut self, items: &[T], call: impl FnOnce(*mut T) -> R) -> R {
+        self.protected(NONE, items, call)
+    }
+
+    fn protected<R>(&mut self, protection: i32, items: &[T], call: impl FnOnce(*mut T) -> R) -> R {
         let start = self.lend(items);
-        self.protect(READ);
+        self.protect(protection);
         let result = call(start);
         self.protect(READ_WRITE);
         result

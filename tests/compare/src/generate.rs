@@ -179,7 +179,7 @@ pub fn damaged(random: &mut Random, mut file: Vec<u8>) -> Vec<u8> {
 }
 
 /// How many pairs: few, mostly; up to the limit, now and then.
-fn count(random: &mut Random) -> usize {
+pub fn count(random: &mut Random) -> usize {
     let most = random.pick(&[1, 2, 3, 4, 8, 8, 20, 20, 60, 512]);
     if random.once_in(400) {
         512

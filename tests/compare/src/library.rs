@@ -1,5 +1,5 @@
-//! The fifteen calls of include/maxeltu.h, each wrapped so that its answer can be compared whole: every place that it was lent is
-//! handed back with what it holds afterwards, and what it should only have read is looked at again.
+//! The seventeen calls of include/maxeltu.h, each wrapped so that its answer can be compared whole: every place that it was lent
+//! is handed back with what it holds afterwards, and what it should only have read is looked at again.
 
 use crate::fence::Fence;
 use crate::ring::Meter;
@@ -17,7 +17,9 @@ extern "C" {
     fn maxeltu_last_report(kind: u32, k: u32, period: u32, total: u32, minute: u32, number: *mut u32) -> u32;
     fn maxeltu_nearest_report(kind: u32, k: u32, period: u32, total: u32, minute: u32, number: *mut u32) -> u32;
     fn maxeltu_between(kind: u32, k: u32, period: u32, total: u32, a: u32, b: u32, reports: *mut u32, records: *mut u64) -> u32;
+    fn maxeltu_plan_cost(kind: u32, k: u32, period: u32, total: u32, reports: u32, tenths: *mut u64, cents: *mut u64) -> u32;
     fn maxeltu_check_cycle(spec: *const u8, spec_len: usize, pairs: *const Pair, count: usize) -> u32;
+    fn maxeltu_cycle_cost(spec: *const u8, spec_len: usize, pairs: *const Pair, count: usize, reports: u32, tenths: *mut u64, cents: *mut u64) -> u32;
     fn maxeltu_read_cycle(file: *const u8, file_len: usize, pairs: *mut Pair, places: usize, count: *mut u32) -> u32;
     fn maxeltu_write_cycle(pairs: *const Pair, count: usize, file: *mut u8, room: usize, written: *mut u32) -> u32;
     fn maxeltu_make_meter(spec: *const u8, spec_len: usize, meter: *mut Meter) -> u32;
@@ -26,10 +28,13 @@ extern "C" {
 
 /// What a call answered, and what its places for numbers hold afterwards.
 #[derive(Clone, Copy, Debug, PartialEq, Eq)]
-pub struct Outcome<const N: usize> {
+pub struct Outcome<const N: usize, P = u32> {
     pub answer: u32,
-    pub places: [u32; N],
+    pub places: [P; N],
 }
+
+/// What a call for a cost answered; the places are the tenths and the cents.
+pub type Billed = Outcome<2, u64>;
 
 /// The memory that one thread lends to the library.
 pub struct Library {
@@ -38,8 +43,30 @@ pub struct Library {
     pairs: Fence<Pair>,
     number: Fence<u32>,
     records: Fence<u64>,
+    bill: Bill,
     meter: Fence<Meter>,
     left: Fence<u32>,
+}
+
+/// The places of what reports cost.
+struct Bill {
+    tenths: Fence<u64>,
+    cents: Fence<u64>,
+}
+
+impl Bill {
+    fn lend(&mut self, [tenths, cents]: [u64; 2]) -> (*mut u64, *mut u64) {
+        (self.tenths.lend(&[tenths]), self.cents.lend(&[cents]))
+    }
+
+    fn held(&self) -> [u64; 2] {
+        [self.tenths.held(1)[0], self.cents.held(1)[0]]
+    }
+
+    fn sealed(&mut self, call: impl FnOnce(*mut u64, *mut u64) -> u32) -> u32 {
+        let Bill { tenths, cents } = self;
+        tenths.sealed(&[0], |tenths| cents.sealed(&[0], |cents| call(tenths, cents)))
+    }
 }
 
 /// Room for the longest slices that the tests lend, in pages.
@@ -55,6 +82,7 @@ impl Library {
             pairs: Fence::new(PAGES),
             number: Fence::new(1),
             records: Fence::new(1),
+            bill: Bill { tenths: Fence::new(1), cents: Fence::new(1) },
             meter: Fence::new(2),
             left: Fence::new(1),
         }
@@ -65,6 +93,14 @@ impl Library {
         let lent = self.spec.lend(spec);
         let answer = call(lent, spec.len());
         assert_eq!(self.spec.held(spec.len()), spec, "a specification that was only to be read");
+        answer
+    }
+
+    /// The same of a specification and a cycle.
+    fn with_cycle(&mut self, spec: &[u8], pairs: &[Pair], call: impl FnOnce(*const u8, usize, *const Pair) -> u32) -> u32 {
+        let list = self.pairs.lend(pairs);
+        let answer = self.with_spec(spec, |at, len| call(at, len, list));
+        assert_eq!(self.pairs.held(pairs.len()), pairs, "a cycle that was only to be read");
         answer
     }
 
@@ -160,10 +196,40 @@ impl Library {
     }
 
     pub fn check_cycle(&mut self, spec: &[u8], pairs: &[Pair]) -> u32 {
-        let list = self.pairs.lend(pairs);
-        let answer = self.with_spec(spec, |at, len| unsafe { maxeltu_check_cycle(at, len, list, pairs.len()) });
-        assert_eq!(self.pairs.held(pairs.len()), pairs, "a cycle that was only to be read");
-        answer
+        self.with_cycle(spec, pairs, |at, len, list| unsafe { maxeltu_check_cycle(at, len, list, pairs.len()) })
+    }
+
+    pub fn plan_cost(&mut self, kind: u32, [k, period, total]: [u32; 3], reports: u32, before: [u64; 2]) -> Billed {
+        let (tenths, cents) = self.bill.lend(before);
+        let answer = unsafe { maxeltu_plan_cost(kind, k, period, total, reports, tenths, cents) };
+        Outcome { answer, places: self.bill.held() }
+    }
+
+    pub fn cycle_cost(&mut self, spec: &[u8], pairs: &[Pair], reports: u32, before: [u64; 2]) -> Billed {
+        let (tenths, cents) = self.bill.lend(before);
+        let answer = self.with_cycle(spec, pairs, |at, len, list| unsafe {
+            maxeltu_cycle_cost(at, len, list, pairs.len(), reports, tenths, cents)
+        });
+        Outcome { answer, places: self.bill.held() }
+    }
+
+    /// A cost that is refused: tenths and cents have places where nothing can be written.
+    pub fn refused_plan_cost(&mut self, kind: u32, [k, period, total]: [u32; 3], reports: u32) -> u32 {
+        self.bill.sealed(|tenths, cents| unsafe { maxeltu_plan_cost(kind, k, period, total, reports, tenths, cents) })
+    }
+
+    /// The same of a cycle. More pairs than a cycle can have lie where nothing can be read either.
+    pub fn refused_cycle_cost(&mut self, spec: &[u8], pairs: &[Pair], reports: u32) -> u32 {
+        let (at, count) = (self.spec.lend(spec), pairs.len());
+        let Library { pairs: list, bill, .. } = self;
+        let call = |list: *mut Pair| {
+            bill.sealed(|tenths, cents| unsafe { maxeltu_cycle_cost(at, spec.len(), list, count, reports, tenths, cents) })
+        };
+        if count > 512 {
+            list.hidden(pairs, call)
+        } else {
+            list.sealed(pairs, call)
+        }
     }
 
     /// The places hold `before`; they come back as the call leaves them, beside the count.

@@ -1,5 +1,5 @@
-//! The limits of document 01, and of the second range of document 02, Req 06, each reached and each passed by one. Every answer is
-//! worked out by hand from the documents, and asked of the library and of the reference.
+//! The limits of document 01, and of the second range of document 02, Req 06, each reached and each passed by one; and the costs of
+//! its Req 08 at the limits. Every answer is worked out by hand from the documents, and asked of the library and of the reference.
 
 use crate::checks::{self, both_rates, demand_only, even, no_rates, supply_only, well, with_second, Checks};
 use crate::group::Runner;
@@ -11,6 +11,7 @@ pub fn all(runner: &mut Runner) {
     checks::group(runner, "every bit map and every length of a specification", maps);
     checks::group(runner, "limits of a proper plan", plans);
     checks::group(runner, "limits of a cycle's count", counts);
+    checks::group(runner, "the largest costs, of 2^32 − 1 reports", costs);
 }
 
 fn lasting(spec: Spec, tmin: u64, tmax: u64) -> Spec {
@@ -325,4 +326,63 @@ fn counts(checks: &mut Checks) {
     checks.write("the longest file", &pairs, 2_562, Ok(&file));
     checks.write("the longest file", &pairs, 2_561, Err(20));
     checks.read("the longest file", &file, 512, Ok(&pairs));
+}
+
+fn costs(checks: &mut Checks) {
+    const LAST: u32 = u32::MAX;
+    let (least, most) = ((12_884_901_885, 1_288_490_189), (4_294_967_295_000, 429_496_729_500));
+    // 2^32 − 1 is 20,160 × 213,044 + 255. Of 20,160 reports one is larger, all but one are, or half of them: the first half, or
+    // every other.
+    let one_of_2 = (12_885_327_975, 1_288_532_798);
+    let one_of_501 = (2_276_432_797_500, 227_643_279_750);
+    let all_but_one_of_501 = (4_294_867_164_320, 429_486_716_432);
+    for (name, plan, wanted) in [
+        ("size 1", well(1, 1, 1), least),
+        ("even, size 1", even(1, 20_160, 1), least),
+        ("size 1, the largest k", well(20_160, 406_425_600, 20_160), least),
+        ("even, size 1, the largest k", even(20_160, 20_160, 20_160), least),
+        ("size 1,000", well(1, 20_160, 1_000), most),
+        ("even, size 1,000", even(1, 1, 1_000), most),
+        ("size 1,000, the largest k", well(20_160, 20_160, 20_160_000), most),
+        ("even, all at the top", even(20_160, 406_425_600, 20_160_000), most),
+        ("sizes 1,000 and 999", well(20_160, 20_160, 20_159_999), most),
+        ("even, sizes 1,000 and 999", even(20_160, 20_160, 20_159_999), most),
+        ("one report of 2", well(20_160, 20_160, 20_161), one_of_2),
+        ("even, one report of 2", even(20_160, 20_160, 20_161), one_of_2),
+        ("one report of 501", well(20_160, 20_161, 10_080_001), one_of_501),
+        ("even, one report of 501", even(20_160, 20_160, 10_080_001), one_of_501),
+        ("all but one of 501", well(20_160, 20_161, 10_100_159), all_but_one_of_501),
+        ("even, all but one of 501", even(20_160, 20_160, 10_100_159), all_but_one_of_501),
+        ("half of them of 501", well(20_160, 20_161, 10_090_080), (3_285_650_040_600, 328_565_004_060)),
+        ("even, half of them of 501", even(20_160, 20_160, 10_090_080), (3_285_649_980_910, 328_564_998_091)),
+    ] {
+        checks.plan_cost(name, plan, 0, (0, 0));
+        checks.plan_cost(name, plan, LAST, wanted);
+    }
+    // A report less, of 3 tenths: the bill is no longer at half a cent.
+    checks.plan_cost("size 1", well(1, 1, 1), LAST - 1, (12_884_901_882, 1_288_490_188));
+    let spec = no_rates((1, 1_000), (1, 20_160));
+    let cycle = |first: u16, between: u16, last: u16| {
+        let mut pairs = vec![(20_160, between); 512];
+        (pairs[0].1, pairs[511].1) = (first, last);
+        pairs
+    };
+    // 2^32 − 1 is 512 × 8,388,607 + 511.
+    for (name, pairs, wanted) in [
+        ("1 pair of size 1", vec![(1, 1)], least),
+        ("1 pair of size 1,000", vec![(1, 1_000)], most),
+        ("512 pairs of size 1", cycle(1, 1, 1), least),
+        ("512 pairs of size 1,000", cycle(1_000, 1_000, 1_000), most),
+        ("512 pairs, the first of size 1", cycle(1, 1_000, 1_000), (4_286_603_852_824, 428_660_385_282)),
+        ("512 pairs, the last of size 1", cycle(1_000, 1_000, 1), (4_286_603_853_821, 428_660_385_382)),
+    ] {
+        checks.cycle_cost(name, &spec, &pairs, 0, (0, 0));
+        checks.cycle_cost(name, &spec, &pairs, LAST, wanted);
+    }
+    for (reports, wanted) in [(511, (511_000, 51_100)), (512, (511_003, 51_100)), (513, (512_003, 51_200))] {
+        checks.cycle_cost("512 pairs, the last of size 1", &spec, &cycle(1_000, 1_000, 1), reports, wanted);
+    }
+    // One pair more than a cycle can have, and none: any number of reports is refused.
+    checks.cycle("513 pairs of size 1,000", &spec, &[(1, 1_000); 513], 12);
+    checks.cycle("no pair", &spec, &[], 12);
 }

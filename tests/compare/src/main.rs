@@ -9,6 +9,7 @@
 
 mod calls;
 mod checks;
+mod costs;
 mod edges;
 mod exhaustive;
 mod fence;
@@ -19,6 +20,7 @@ mod limits;
 mod meters;
 mod moments;
 mod offers;
+mod plans;
 mod program;
 mod random;
 mod ranges;
@@ -51,6 +53,7 @@ fn main() {
             exhaustive::all(&mut runner);
             calls::all(&mut runner);
             moments::all(&mut runner);
+            costs::all(&mut runner);
             meters::all(&mut runner);
         }
         ["evenplan", program] => program::all(&mut runner, program.as_ref()),

@@ -2,20 +2,18 @@
 //! of them in a period. On plans of any size the calls are held against each other, and against the minutes and sizes that
 //! maxeltu_report gives.
 
-use crate::calls::{expected, plan_of, some_plan};
+use crate::calls::expected;
 use crate::checks::HELD;
 use crate::group::{same, Counts, Met, Runner, Verdict, RUNS};
 use crate::library::Library;
+use crate::plans::{handed_to_walk, proper_plan, word, Handed, SmallPlans, LAST};
 use crate::random::Random;
 use reference::schedule::Schedule;
 use reference::{Plan, Refusal};
 
-/// The last minute that can be asked for, and the last report.
-const LAST: u64 = u32::MAX as u64;
-
 pub fn all(runner: &mut Runner) {
     runner.random("reference: minutes by walk and by whole periods", RUNS / 800, &[0, 23], two_ways_case);
-    runner.every("every small plan: every minute and every two", SMALL_PLANS, &[0, 1, 2, 3, 11, 23], small_case);
+    runner.every("every small plan: every minute and every two", SMALL.plans(), &[0, 1, 2, 3, 11, 23], small_case);
     runner.random("last and nearest report", RUNS, &[0, 1, 2, 3, 11], minute_case);
     runner.random("reports and records between two minutes", RUNS, &[0, 11, 23], between_case);
     runner.random("from a report to its minute and back", RUNS, &[0, 1], back_case);
@@ -24,39 +22,8 @@ pub fn all(runner: &mut Runner) {
     runner.random("reports and records between minutes add up", RUNS, &[0], add_up_case);
 }
 
-/// A plan as it is handed in, with its kind by number.
-#[derive(Clone, Copy, Debug)]
-struct Handed {
-    kind: u32,
-    k: u64,
-    period: u64,
-    total: u64,
-}
-
-impl Handed {
-    fn plan(self) -> Result<Plan, Refusal> {
-        plan_of(self.kind, [self.k, self.period, self.total])
-    }
-
-    fn is_proper(self) -> bool {
-        self.plan().is_ok_and(|plan| plan.proper())
-    }
-
-    fn numbers(self) -> [u32; 3] {
-        [self.k, self.period, self.total].map(word)
-    }
-}
-
 // Of a proper plan, by the library.
 impl Handed {
-    /// Minute and size of report i.
-    fn report(self, i: u64, library: &mut Library) -> (u64, u64) {
-        let got = library.report(self.kind, self.numbers(), word(i), [0; 3]);
-        assert_eq!(got.answer, 0, "{self:?}");
-        let [high, low, size] = got.places.map(u64::from);
-        (high << 32 | low, size)
-    }
-
     fn last(self, minute: u64, library: &mut Library) -> u64 {
         let got = library.last_report(self.kind, self.numbers(), word(minute), [0]);
         assert_eq!(got.answer, 0, "{self:?}");
@@ -75,41 +42,6 @@ impl Handed {
         assert_eq!(got.answer, 0, "{self:?}");
         let [reports, high, low] = got.places.map(u64::from);
         (reports, high << 32 | low)
-    }
-}
-
-fn word(number: u64) -> u32 {
-    u32::try_from(number).expect("a 32-bit number")
-}
-
-/// Gaps that differ need more care than sizes that do: of the even plans, half become well-formed ones with some longer gaps.
-fn some_handed(random: &mut Random) -> Handed {
-    let (kind, [k, period, total]) = some_plan(random);
-    if kind == 1 && random.once_in(2) {
-        let period = (period + random.below(k.max(1))).min(LAST);
-        return Handed { kind: 0, k, period, total };
-    }
-    Handed { kind, k, period, total }
-}
-
-/// The reference walks a period several times for each answer, so a large k is drawn seldom; so is a plan that is not proper.
-fn handed_to_walk(random: &mut Random) -> Handed {
-    let most = if random.once_in(30) { 20_160 } else { 200 };
-    loop {
-        let handed = some_handed(random);
-        let taken = if handed.is_proper() { handed.k <= most } else { random.once_in(4) };
-        if taken {
-            return handed;
-        }
-    }
-}
-
-fn proper_plan(random: &mut Random) -> (Handed, Plan) {
-    loop {
-        let handed = some_handed(random);
-        if let Some(plan) = handed.plan().ok().filter(Plan::proper) {
-            return (handed, plan);
-        }
     }
 }
 
@@ -221,20 +153,11 @@ fn two_ways_case(random: &mut Random, library: &mut Library) -> Verdict {
     Ok(met)
 }
 
-/// Plans of kind 0 to 2, with k, period and total from 0 on, so many of each: most are not proper.
-const COUNTS: u64 = 7;
-const PERIODS: u64 = 31;
-const TOTALS: u64 = 15;
-const SMALL_PLANS: u64 = 3 * COUNTS * PERIODS * TOTALS;
+const SMALL: SmallPlans = SmallPlans { counts: 7, periods: 31, totals: 15 };
 
 /// Three periods of a proper plan, and a minute more.
-fn small_case(mut number: u64, library: &mut Library) -> Result<Counts, String> {
-    let mut digit = |base: u64| {
-        let digit = number % base;
-        number /= base;
-        digit
-    };
-    let handed = Handed { kind: digit(3) as u32, k: digit(COUNTS), period: digit(PERIODS), total: digit(TOTALS) };
+fn small_case(number: u64, library: &mut Library) -> Result<Counts, String> {
+    let handed = SMALL.plan(number);
     let end = if handed.is_proper() { 3 * handed.period + 1 } else { 2 };
     let mut counts = Counts::new();
     for a in 0..=end {

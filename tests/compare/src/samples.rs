@@ -1,10 +1,33 @@
 //! The samples of document 01, starred or not, through the library and through the reference, and the files in samples/. The sizes of
-//! even plans are those of document 02, Req 02, the meter is that of Req 03, and the van of two shifts that of Req 06.
+//! even plans are those of document 02, Req 02, the meter is that of Req 03, the van of two shifts that of Req 06, and the prices
+//! are those of Req 08.
 
 use crate::checks::{self, both_rates, pairs_of, with_second, Checks, Offer};
 use crate::group::Runner;
 use reference::feasibility::Failure::{Inconsistent, Refused};
 use reference::{cycle, even, file, schedule, spec, Pair, Plan, Spec};
+
+/// Samples A, B and F with this budget.
+fn a_with(b: u64) -> Spec {
+    both_rates((3, 10), (45, 55), (b, 220), (17, 158))
+}
+
+fn b_with(b: u64) -> Spec {
+    both_rates((2, 3), (5, 5), (b, 26), (10, 20))
+}
+
+fn f_with(b: u64) -> Spec {
+    both_rates((5, 5), (4, 4), (b, 10), (5, 20))
+}
+
+/// The van of samples/shift.spec and samples/touching.spec, before it has a second range of gaps.
+fn one_shift() -> Spec {
+    both_rates((1, 10), (5, 15), (22, 60), (8, 90))
+}
+
+/// The pairs of samples/shift-good.cycle and samples/shift-between.cycle.
+const SHIFT_GOOD: [(u16, u16); 5] = [(15, 5), (15, 5), (5, 4), (90, 8), (60, 8)];
+const SHIFT_BETWEEN: [(u16, u16); 3] = [(15, 8), (30, 4), (90, 8)];
 
 /// The first reports of a plan, by minute and size.
 fn reports(checks: &mut Checks, name: &str, plan: Plan, wanted: &[(u64, u64)]) {
@@ -22,6 +45,7 @@ pub fn all(runner: &mut Runner) {
         two_shifts(checks);
     });
     checks::group(runner, "samples of plans, from a minute back to the report", minutes);
+    checks::group(runner, "samples of plans and cycles, what they cost", costs);
     checks::group(runner, "samples of meters", meters);
 }
 
@@ -75,6 +99,42 @@ fn minutes(checks: &mut Checks) {
     }
 }
 
+/// Samples A, B, D, E and F with B 15, and the van of one shift and of two: what none of their reports costs, the first, the first
+/// two and so on, in tenths and in cents.
+fn costs(checks: &mut Checks) {
+    let plans: [(&str, Plan, &[(u64, u64)]); 9] = [
+        // Sizes 3, 2, 3, 2: "four reports: 26 tenths, 3 cents".
+        ("B with 15, even", checks::even(4, 20, 10), &[(0, 0), (8, 1), (13, 1), (21, 2), (26, 3), (34, 3), (39, 4)]),
+        ("B", checks::well(4, 20, 10), &[(0, 0), (8, 1), (16, 2), (21, 2), (26, 3), (34, 3), (42, 4)]),
+        ("A", checks::well(3, 158, 17), &[(0, 0), (14, 1), (28, 3), (42, 4), (56, 6)]),
+        ("A, even", checks::even(3, 156, 17), &[(0, 0), (14, 1), (28, 3), (42, 4), (56, 6)]),
+        ("D", checks::well(2, 79, 10), &[(0, 0), (14, 1), (28, 3), (42, 4)]),
+        ("E", checks::well(1, 79, 10), &[(0, 0), (25, 3), (50, 5), (75, 8)]),
+        ("F with B 15", checks::well(3, 12, 15), &[(0, 0), (14, 1), (28, 3), (42, 4), (56, 6)]),
+        ("two shifts", checks::even(1, 90, 8), &[(0, 0), (14, 1), (28, 3)]),
+        // Sizes 2, 1, 1, 2, 1, 1.
+        ("one shift", checks::even(6, 90, 8), &[(0, 0), (5, 1), (8, 1), (11, 1), (16, 2), (19, 2), (22, 2), (27, 3)]),
+    ];
+    for (name, plan, wanted) in plans {
+        for (reports, &wanted) in (0..).zip(wanted) {
+            checks.plan_cost(name, plan, reports, wanted);
+        }
+    }
+    let [shift, touching] = [60, 16].map(|lower| with_second(&one_shift(), (lower, 90)));
+    let cycles: [(&str, Spec, &[(u16, u16)], &[(u64, u64)]); 5] = [
+        ("G", b_with(15), &[(5, 3), (5, 2)], &[(0, 0), (8, 1), (13, 1), (21, 2), (26, 3), (34, 3), (39, 4)]),
+        ("A", a_with(29), &[(52, 6), (53, 6), (53, 5)], &[(0, 0), (14, 1), (28, 3), (42, 4), (56, 6)]),
+        ("F with B 15", f_with(15), &[(4, 5)], &[(0, 0), (14, 1), (28, 3)]),
+        ("two shifts", shift, &SHIFT_GOOD, &[(0, 0), (14, 1), (28, 3), (36, 4), (50, 5), (64, 6), (78, 8)]),
+        ("ranges that touch", touching, &SHIFT_BETWEEN, &[(0, 0), (14, 1), (22, 2), (36, 4), (50, 5)]),
+    ];
+    for (name, spec, pairs, wanted) in cycles {
+        for (reports, &wanted) in (0..).zip(wanted) {
+            checks.cycle_cost(name, &spec, pairs, reports, wanted);
+        }
+    }
+}
+
 fn meters(checks: &mut Checks) {
     let sound =
         ["a", "a28", "b", "b14", "b15", "c", "d", "e", "f", "f15", "f-no-demand", "shift", "touching"].map(|name| (name, 0));
@@ -83,7 +143,7 @@ fn meters(checks: &mut Checks) {
         let name = format!("{name}.spec");
         checks.made(&name, &std::fs::read(checks::sample(&name)).expect(&name), wanted);
     }
-    let b15 = both_rates((2, 3), (5, 5), (15, 26), (10, 20));
+    let b15 = b_with(15);
     checks.meter("B with 15", &b15, [2, 3, 5, 15, 26]);
     checks.meter("B with no supply rate", &Spec { supply: None, ..b15.clone() }, [2, 3, 5, 20_000, 0]);
     let offers = offers_of("b15.offers");
@@ -105,7 +165,7 @@ fn offer_of(line: &str) -> Option<Offer> {
 }
 
 fn sample_a(checks: &mut Checks) {
-    let a = both_rates((3, 10), (45, 55), (29, 220), (17, 158));
+    let a = a_with(29);
     checks.file("a.spec", &spec::write(&a));
     checks.consistency("A", &a, None);
     checks.min_demand("A", &a, 2, Ok([110, 17, 34]));
@@ -118,17 +178,17 @@ fn sample_a(checks: &mut Checks) {
     reports(checks, "A, even", checks::even(3, 156, 17), &[(0, 6), (52, 6), (104, 5), (156, 6)]);
     checks.even("A with gaps 53 to 55", &Spec { gap: (53, 55), ..a.clone() }, Err(10));
     checks.cycle("A", &a, &[(52, 6), (53, 6), (53, 5)], 0);
-    let a28 = Spec { supply: Some((28, 220)), ..a };
+    let a28 = a_with(28);
     checks.file("a28.spec", &spec::write(&a28));
     checks.test("A with 28", &a28, Err(Refused(9)));
     checks.even("A with 28", &a28, Err(10));
 }
 
 fn sample_b(checks: &mut Checks) {
-    let b = both_rates((2, 3), (5, 5), (16, 26), (10, 20));
+    let b = b_with(16);
     checks.file("b.spec", &spec::write(&b));
     checks.test("B", &b, Ok([4, 20, 10, 16]));
-    let b15 = Spec { supply: Some((15, 26)), ..b.clone() };
+    let b15 = b_with(15);
     checks.file("b15.spec", &[0x0F, 0, 2, 0, 3, 0, 5, 0, 5, 0, 0x0F, 0, 0x1A, 0, 0x0A, 0, 0x14]);
     checks.file("b15.spec", &spec::write(&b15));
     checks.test("B with 15", &b15, Err(Refused(9)));
@@ -137,7 +197,7 @@ fn sample_b(checks: &mut Checks) {
     checks.cycle("G, 3 2", &b15, &[(5, 3), (5, 2)], 0);
     checks.cycle("G, 3 3 2 2", &b15, &[(5, 3), (5, 3), (5, 2), (5, 2)], 15);
     checks.cycle("G, 2 2 2 3", &b15, &[(5, 2), (5, 2), (5, 2), (5, 3)], 16);
-    let b14 = Spec { supply: Some((14, 26)), ..b };
+    let b14 = b_with(14);
     checks.file("b14.spec", &spec::write(&b14));
     checks.even("B with 14", &b14, Err(10));
     // The search for size lists agrees, from the rules alone.
@@ -162,11 +222,11 @@ fn samples_c_d_e(checks: &mut Checks) {
 }
 
 fn sample_f(checks: &mut Checks) {
-    let f = both_rates((5, 5), (4, 4), (10, 10), (5, 20));
+    let f = f_with(10);
     checks.file("f.spec", &spec::write(&f));
     checks.consistency("F", &f, Some(4));
     checks.test("F", &f, Err(Inconsistent(4)));
-    let kept = Spec { supply: Some((15, 10)), ..f.clone() };
+    let kept = f_with(15);
     checks.file("f15.spec", &spec::write(&kept));
     checks.consistency("F with B 15", &kept, None);
     checks.test("F with B 15", &kept, Ok([3, 12, 15, 25]));
@@ -184,7 +244,7 @@ fn sample_f(checks: &mut Checks) {
 
 /// "Two-shift vans report every 5 to 15 minutes or every 60 to 90, and never in between."
 fn two_shifts(checks: &mut Checks) {
-    let one_shift = both_rates((1, 10), (5, 15), (22, 60), (8, 90));
+    let one_shift = one_shift();
     let shift = with_second(&one_shift, (60, 90));
     let bytes = [0x2F, 0, 1, 0, 10, 0, 5, 0, 15, 0, 22, 0, 60, 0, 8, 0, 90, 0, 60, 0, 90];
     checks.file("shift.spec", &bytes);
@@ -193,9 +253,7 @@ fn two_shifts(checks: &mut Checks) {
     checks.even("two shifts", &shift, Ok([90, 1, 8]));
     checks.even("one shift", &one_shift, Ok([15, 6, 8]));
     checks.meter("two shifts", &shift, [1, 10, 5, 22, 60]);
-    let good = [(15, 5), (15, 5), (5, 4), (90, 8), (60, 8)];
-    let between = [(15, 8), (30, 4), (90, 8)];
-    for (name, pairs) in [("shift-good.cycle", &good[..]), ("shift-between.cycle", &between)] {
+    for (name, pairs) in [("shift-good.cycle", &SHIFT_GOOD[..]), ("shift-between.cycle", &SHIFT_BETWEEN)] {
         checks.file(name, &file::write(&pairs_of(pairs), usize::MAX).expect(name));
     }
     let touching = with_second(&one_shift, (16, 90));
@@ -205,8 +263,8 @@ fn two_shifts(checks: &mut Checks) {
     for (name, spec, good_gets, between_gets) in
         [("two shifts", &shift, 0, 13), ("ranges that touch", &touching, 0, 0), ("one shift", &one_shift, 13, 13)]
     {
-        checks.cycle(&format!("{name}, shift-good.cycle"), spec, &good, good_gets);
-        checks.cycle(&format!("{name}, shift-between.cycle"), spec, &between, between_gets);
+        checks.cycle(&format!("{name}, shift-good.cycle"), spec, &SHIFT_GOOD, good_gets);
+        checks.cycle(&format!("{name}, shift-between.cycle"), spec, &SHIFT_BETWEEN, between_gets);
     }
     let too_low = spec::write(&with_second(&one_shift, (15, 90)));
     checks.file("bad-ranges.spec", &too_low);

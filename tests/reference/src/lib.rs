@@ -4,6 +4,7 @@
 //! Where a number is too large for the literal way there is a second, still plain way (`Reports` for `Minutes`, whole periods
 //! for a walk, counting for the search of size lists). The tests compare the two ways on numbers that both can do.
 
+pub mod cost;
 pub mod cycle;
 pub mod even;
 pub mod feasibility;
