@@ -69,6 +69,20 @@ impl Bill {
     }
 }
 
+/// Lends a specification, and sees that the call left it as it was.
+fn lend_spec(file: &mut Fence<u8>, spec: &[u8], call: impl FnOnce(*const u8, usize) -> u32) -> u32 {
+    let answer = call(file.lend(spec), spec.len());
+    assert_eq!(file.held(spec.len()), spec, "a specification that was only to be read");
+    answer
+}
+
+/// The same of a cycle. More pairs than one can have lie where nothing can be read.
+fn lend_cycle(list: &mut Fence<Pair>, pairs: &[Pair], call: impl FnOnce(*const Pair) -> u32) -> u32 {
+    let answer = if pairs.len() > 512 { list.hidden(pairs, |at| call(at)) } else { call(list.lend(pairs)) };
+    assert_eq!(list.held(pairs.len()), pairs, "a cycle that was only to be read");
+    answer
+}
+
 /// Room for the longest slices that the tests lend, in pages.
 const PAGES: usize = 20;
 
@@ -88,20 +102,13 @@ impl Library {
         }
     }
 
-    /// Lends the specification, and sees that the call left it as it was.
     fn with_spec(&mut self, spec: &[u8], call: impl FnOnce(*const u8, usize) -> u32) -> u32 {
-        let lent = self.spec.lend(spec);
-        let answer = call(lent, spec.len());
-        assert_eq!(self.spec.held(spec.len()), spec, "a specification that was only to be read");
-        answer
+        lend_spec(&mut self.spec, spec, call)
     }
 
-    /// The same of a specification and a cycle.
     fn with_cycle(&mut self, spec: &[u8], pairs: &[Pair], call: impl FnOnce(*const u8, usize, *const Pair) -> u32) -> u32 {
-        let list = self.pairs.lend(pairs);
-        let answer = self.with_spec(spec, |at, len| call(at, len, list));
-        assert_eq!(self.pairs.held(pairs.len()), pairs, "a cycle that was only to be read");
-        answer
+        let Library { spec: file, pairs: list, .. } = self;
+        lend_cycle(list, pairs, |list| lend_spec(file, spec, |at, len| call(at, len, list)))
     }
 
     pub fn verdict(&mut self, spec: &[u8], cycle: &[u8]) -> u32 {
@@ -218,18 +225,13 @@ impl Library {
         self.bill.sealed(|tenths, cents| unsafe { maxeltu_plan_cost(kind, k, period, total, reports, tenths, cents) })
     }
 
-    /// The same of a cycle. More pairs than a cycle can have lie where nothing can be read either.
+    /// The same of a cycle.
     pub fn refused_cycle_cost(&mut self, spec: &[u8], pairs: &[Pair], reports: u32) -> u32 {
         let (at, count) = (self.spec.lend(spec), pairs.len());
         let Library { pairs: list, bill, .. } = self;
-        let call = |list: *mut Pair| {
+        lend_cycle(list, pairs, |list| {
             bill.sealed(|tenths, cents| unsafe { maxeltu_cycle_cost(at, spec.len(), list, count, reports, tenths, cents) })
-        };
-        if count > 512 {
-            list.hidden(pairs, call)
-        } else {
-            list.sealed(pairs, call)
-        }
+        })
     }
 
     /// The places hold `before`; they come back as the call leaves them, beside the count.
@@ -244,11 +246,11 @@ impl Library {
 
     /// The bytes hold `before`; they come back as the call leaves them, beside the number written.
     pub fn write_cycle(&mut self, pairs: &[Pair], before: &[u8], written: u32) -> (Outcome<1>, Vec<u8>) {
-        let list = self.pairs.lend(pairs);
         let mut written = written;
         let lent = self.file.lend(before);
-        let answer = unsafe { maxeltu_write_cycle(list, pairs.len(), lent, before.len(), &mut written) };
-        assert_eq!(self.pairs.held(pairs.len()), pairs, "a cycle that was only to be read");
+        let answer = lend_cycle(&mut self.pairs, pairs, |list| unsafe {
+            maxeltu_write_cycle(list, pairs.len(), lent, before.len(), &mut written)
+        });
         (Outcome { answer, places: [written] }, self.file.held(before.len()).to_vec())
     }
 
