@@ -8,7 +8,7 @@ use mathlib.Core.Path.{_≡_, _∙_, ap}
 use mathlib.Core.Logic.{_⊎_, inl, inr, ⊎-elim}
 use Rattle.schedule.specs.Schedules.{sum}
 use Rattle.numbers.proofs.Cases.{lt-cases}
-use Rattle.schedule.proofs.Sums.{sum-none, sum-more, sum-rounds}
+use Rattle.schedule.proofs.Sums.{sum-none, sum-more, sum-rounds, sum-whole}
 
 pub record Spread (k q : ℕ) (x X f : ℕ → ℕ) : Type 0 where
   pub none : X 0 ≡ 0
@@ -34,7 +34,7 @@ module _ {k q : ℕ} {x X f : ℕ → ℕ} (pos : 0 < k) (d : Spread k q x X f) 
       (add-comm (v * q + X v) (u * (k * q + X k)))
 
   pub sum-of : (n : ℕ) → sum f n ≡ n / k * (k * q + X k) + (n % k * q + X (n % k))
-  sum-of n = rw (div-add-mod' n k) at (sum-at (n / k) (n % k) (omega (arith, mod-lt n pos)))
+  sum-of n = sum-whole f k again n ∙ rw (sum-in k (omega arith), sum-in (n % k) (omega (arith, mod-lt n pos)))
 
   below : (u v : ℕ) → v < k → sum f (u * k + v) ≡ u * (k * q + X k) + v * q + X v
   below u v h = omega (arith, sum-at u v (omega arith))

@@ -15,7 +15,8 @@ unfoldable pub sum : (ℕ → ℕ) → ℕ → ℕ
 sum f zero = 0
 sum f (suc n) = sum f n + f n
 
--- what adds up round by round, c to a round: over n it is n / c times what it is over c, and what it is over n mod c
+-- document 02, Req 08: "the sum over whole rounds is a product". Of c to a round, what is added up over n is n / c times what it is over
+-- c, and what it is over n mod c.
 abbrev pub InRounds : ℕ → (ℕ → ℕ) → Type 0
 InRounds c g = (n : ℕ) → g n ≡ n / c * g c + g (n % c)
 
