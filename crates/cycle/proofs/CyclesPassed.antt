@@ -114,13 +114,10 @@ module _ (spec : Spec) (ps : List Pair) (passed : checkNumber spec ps ≡ 0) whe
   unfolding checkNumber
   own = went-on (specNumber spec) (cycleNumber spec ps) (λ m. m) 0 (λ some z. some z) passed
 
-  pub passed-accepted : IsAccepted spec
-  passed-accepted = own .0
-
   pub passed-count : (1 ≤ length ps) × (length ps ≤ 512)
   passed-count = countIn-true (length ps) (cycle-said spec ps .is-0 (own .1) .0)
 
   pub passed-size : (i : ℕ) → cycleRun ps .size i ≤ 1000
   passed-size i =
-      let o = passed-obeys spec ps passed-accepted (passed-count .0) (passed-count .1) .0 passed in
-      omega (arith, size-allowed-iff spec (cycleRun ps .size i) .0 (o .sizes i), facts spec passed-accepted .size-high)
+      let o = passed-obeys spec ps (own .0) (passed-count .0) (passed-count .1) .0 passed in
+      omega (arith, size-allowed-iff spec (cycleRun ps .size i) .0 (o .sizes i), facts spec (own .0) .size-high)
