@@ -585,7 +585,13 @@ fn half_cents(checks: &mut Checks) {
 }
 
 fn whole_rounds(checks: &mut Checks) {
-    // Sizes 3, 2, 2, of 8, 5 and 5 tenths.
+    three_reports(checks);
+    five_reports(checks);
+    a_size_of_each_band(checks);
+}
+
+/// Sizes 3, 2, 2, of 8, 5 and 5 tenths.
+fn three_reports(checks: &mut Checks) {
     for (reports, wanted) in [
         (2, (13, 1)),
         (3, (18, 2)),
@@ -601,7 +607,10 @@ fn whole_rounds(checks: &mut Checks) {
         checks.plan_cost("even, three reports", even(3, 15, 7), reports, wanted);
         checks.cycle_cost("three reports", &any_size(), &[(5, 3), (5, 2), (5, 2)], reports, wanted);
     }
-    // Sizes 3, 2, 3, 2, 2.
+}
+
+/// Sizes 3, 2, 3, 2, 2.
+fn five_reports(checks: &mut Checks) {
     for (reports, wanted) in [
         (4, (26, 3)),
         (5, (31, 3)),
@@ -616,7 +625,10 @@ fn whole_rounds(checks: &mut Checks) {
     ] {
         checks.plan_cost("even, five reports", even(5, 25, 12), reports, wanted);
     }
-    // A size of each band: 2,146 tenths, of which the last report costs 1,000 and the first 3.
+}
+
+/// A round costs 2,146 tenths, of which the last report costs 1,000 and the first 3.
+fn a_size_of_each_band(checks: &mut Checks) {
     let each_band = [1, 2, 3, 5, 9, 17, 33, 65, 126, 251, 501].map(|size| (5, size));
     for (reports, wanted) in [
         (0, (0, 0)),
