@@ -92,6 +92,7 @@ enum maxeltu_refusal {
     MAXELTU_SIZE = 14,            /* some size, or the offer's, is out of the specification's range */
     MAXELTU_TOO_FULL = 15,        /* some R minutes hold more than B records, or would with the offer */
     MAXELTU_TOO_THIN = 16,        /* some P minutes hold fewer than L records */
+    MAXELTU_TOO_LATE = 26,        /* the lateness is above MAXELTU_MAX_LATENESS */
 
     /* A cycle's file, and the room lent for a cycle or its file. */
     MAXELTU_PAIR_MAP = 17,        /* a pair's bit map has bit 2 to 7, or the first pair lacks a field */
@@ -116,6 +117,7 @@ enum maxeltu_limit {
     MAXELTU_MAX_DURATION = 60000, /* Tmin, Tmax: minutes */
 
     MAXELTU_MAX_PAIRS = 512,      /* pairs in a cycle */
+    MAXELTU_MAX_LATENESS = 1440,  /* minutes that a report may arrive late */
     MAXELTU_MAX_SPEC_FILE = 25,   /* bytes of the longest specification file */
     MAXELTU_MAX_CYCLE_FILE = 2562, /* bytes of the longest cycle file: 2 + 512 * 5 */
     MAXELTU_METER_PLACES = 1024   /* reports that a meter can hold */
@@ -341,6 +343,26 @@ uint32_t maxeltu_plan_cost(uint32_t kind, uint32_t k, uint32_t period,
  */
 uint32_t maxeltu_check_cycle(const uint8_t *spec, size_t spec_len,
                              const struct maxeltu_pair *pairs, size_t count);
+
+/*
+ * Checks a cycle of `count` pairs whose reports may arrive late: each by a number
+ * of minutes of its own, from 0 to `lateness`, report 0 too. The rules are asked of
+ * the minutes at which reports arrive, for every choice of these delays.
+ *
+ * Answers 0 where the cycle obeys however its reports are delayed; 1 to 4 or 24;
+ * 26 where lateness is above 1440; 12 where count is 0 or above 512; 13 where some
+ * delays make a gap that is in neither range: of the gaps from `lateness` less to
+ * `lateness` more than some pair's, one is not allowed, or the pair's is not above
+ * `lateness`; 14 where some size is out of range; 15 where with some delays some
+ * stretch of R minutes is too full; 16 where with some delays some stretch of P
+ * minutes is too thin (where P <= lateness it can be empty).
+ * With lateness 0 the answer is that of maxeltu_check_cycle. A cycle that obeys for
+ * some lateness obeys for every smaller one.
+ * Reads `count` pairs; of more than 512, none. Writes nothing.
+ */
+uint32_t maxeltu_check_late(const uint8_t *spec, size_t spec_len,
+                            const struct maxeltu_pair *pairs, size_t count,
+                            uint32_t lateness);
 
 /*
  * What the first `reports` reports of a cycle's endless repetition cost, by the

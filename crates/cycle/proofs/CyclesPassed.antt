@@ -7,7 +7,7 @@ use mathlib.Core.List.{List}
 use mathlib.Core.Bool.{Bool, true, false, cond}
 use lib.Dec.{leb}
 use lib.ListN.{length}
-use borrow.Author.Tests.{le-leb, leb-false}
+use borrow.Author.Tests.{leb-false}
 use Rattle.numbers.proofs.All.{some-fails}
 use Rattle.spec.specs.declared.Rate.{Rate}
 use Rattle.spec.specs.declared.Rate.the-variants.{Absent, Present}
@@ -19,36 +19,23 @@ use Rattle.pairs.specs.declared.Pair.{Pair}
 use Rattle.pairs.specs.Pairs.{countIn}
 use Rattle.pairs.proofs.Counts.{countIn-true}
 use Rattle.schedule.specs.Schedules.{stretch}
-use Rattle.schedule.specs.Rules.{Obeys}
+use Rattle.schedule.specs.Rules.{Obeys, TooFull, TooThin}
 use Rattle.cycle.specs.Cycles.{cycleRun, round}
 use Rattle.cycle.specs.Check.{gapsAllowed, sizesAllowed, supplyKept, demandMet, cycleNumber, checkNumber}
-use Rattle.cycle.specs.Witnesses.{TooFull, TooThin, GapRefused, SizeRefused, SupplyRefused, DemandRefused}
+use Rattle.cycle.specs.Witnesses.{GapRefused, SizeRefused, SupplyRefused, DemandRefused}
 use Rattle.cycle.proofs.Runs.{gaps-right, sizes-right, supply-right, demand-right}
-use Rattle.cycle.proofs.Steps.{gets-cycle, gets-0}
+use Rattle.cycle.proofs.Steps.{gets-0, Said, said, count-right}
+use Rattle.cycle.proofs.Numbers.{gets-cycle}
 
--- which tests passed and which failed, by the number
-record Said (n : ℕ) (count gaps sizes supply demand : Bool) : Type 0 where
-  is-0 : n ≡ 0 → (count ≡ true) × (gaps ≡ true) × (sizes ≡ true) × (supply ≡ true) × (demand ≡ true)
-  is-13 : n ≡ 13 → gaps ≡ false
-  is-14 : n ≡ 14 → sizes ≡ false
-  is-15 : n ≡ 15 → supply ≡ false
-  is-16 : n ≡ 16 → demand ≡ false
-
--- a number is no other
-no : {A : Type 0} (n m : ℕ) → (n ≡ m → ⊥) → n ≡ m → A
-no n m h e = absurd (h e)
-
-said : (a b c d e : Bool) → Said (cond a (cond b (cond c (cond d (cond e 0 16) 15) 14) 13) 12) a b c d e
-said true true true true true = record { is-0 = λ h. (refl, refl, refl, refl, refl); is-13 = no 0 13 (omega arith); is-14 = no 0 14 (omega arith); is-15 = no 0 15 (omega arith); is-16 = no 0 16 (omega arith) }
-said true true true true false = record { is-0 = no 16 0 (omega arith); is-13 = no 16 13 (omega arith); is-14 = no 16 14 (omega arith); is-15 = no 16 15 (omega arith); is-16 = λ h. refl }
-said true true true false e = record { is-0 = no 15 0 (omega arith); is-13 = no 15 13 (omega arith); is-14 = no 15 14 (omega arith); is-15 = λ h. refl; is-16 = no 15 16 (omega arith) }
-said true true false d e = record { is-0 = no 14 0 (omega arith); is-13 = no 14 13 (omega arith); is-14 = λ h. refl; is-15 = no 14 15 (omega arith); is-16 = no 14 16 (omega arith) }
-said true false c d e = record { is-0 = no 13 0 (omega arith); is-13 = λ h. refl; is-14 = no 13 14 (omega arith); is-15 = no 13 15 (omega arith); is-16 = no 13 16 (omega arith) }
-said false b c d e = record { is-0 = no 12 0 (omega arith); is-13 = no 12 13 (omega arith); is-14 = no 12 14 (omega arith); is-15 = no 12 15 (omega arith); is-16 = no 12 16 (omega arith) }
-
-cycle-said : (spec : Spec) (ps : List Pair) → Said (cycleNumber spec ps) (countIn (length ps)) (gapsAllowed spec ps) (sizesAllowed spec ps) (supplyKept (spec .supply) ps) (demandMet (spec .demand) ps)
+pub cycle-said : (spec : Spec) (ps : List Pair) → Said (cycleNumber spec ps) (countIn (length ps)) (gapsAllowed spec ps) (sizesAllowed spec ps) (supplyKept (spec .supply) ps) (demandMet (spec .demand) ps)
 unfolding cycleNumber
 cycle-said spec ps = said (countIn (length ps)) _ _ _ _
+
+-- where all tests pass, the number is 0
+passes : (spec : Spec) (ps : List Pair) → countIn (length ps) ≡ true → gapsAllowed spec ps ≡ true → sizesAllowed spec ps ≡ true
+    → supplyKept (spec .supply) ps ≡ true → demandMet (spec .demand) ps ≡ true → cycleNumber spec ps ≡ 0
+unfolding cycleNumber
+passes spec ps count gaps sizes supply demand = sym (gets-0 _ _ _ _ _ count gaps sizes supply demand)
 
 -- a number from 13 to 16 is the cycle's own: 3, 4 and 24 are the specification's
 cycle-own : (spec : Spec) (ps : List Pair) (n : ℕ) → 13 ≤ n → n ≤ 16 → checkNumber spec ps ≡ n → cycleNumber spec ps ≡ n
@@ -62,16 +49,16 @@ gap-refused spec ps e = some-fails _ (length ps) (cycle-said spec ps .is-13 (cyc
 
 pub size-refused : SizeRefused
 unfolding sizesAllowed
-size-refused spec ps e = some-fails _ (length ps) (cycle-said spec ps .is-14 (cycle-own spec ps 14 (omega arith) (omega arith) e))
+size-refused spec ps e = some-fails _ (length ps) (cycle-said spec ps .is-14 (cycle-own spec ps 14 (omega arith) (omega arith) e) .1)
 
-too-full : (rate : Rate) (ps : List Pair) → supplyKept rate ps ≡ false → TooFull rate (cycleRun ps)
+pub too-full : (rate : Rate) (ps : List Pair) → supplyKept rate ps ≡ false → TooFull rate (stretch (cycleRun ps))
 unfolding supplyKept
 too-full Absent ps e = absurd (let z : _≡_ {A = ℕ} 0 1 = cc in omega arith)
 too-full (Present b r) ps e =
     let k = some-fails (λ a. leb (stretch (cycleRun ps) a r) b) (round ps) e in
     (k .0, leb-false _ _ (k .1 .1))
 
-too-thin : (rate : Rate) (ps : List Pair) → demandMet rate ps ≡ false → TooThin rate (cycleRun ps)
+pub too-thin : (rate : Rate) (ps : List Pair) → demandMet rate ps ≡ false → TooThin rate (stretch (cycleRun ps))
 unfolding demandMet
 too-thin Absent ps e = absurd (let z : _≡_ {A = ℕ} 0 1 = cc in omega arith)
 too-thin (Present l p) ps e =
@@ -79,10 +66,10 @@ too-thin (Present l p) ps e =
     (k .0, leb-false _ _ (k .1 .1))
 
 pub supply-refused : SupplyRefused
-supply-refused spec ps e = too-full (spec .supply) ps (cycle-said spec ps .is-15 (cycle-own spec ps 15 (omega arith) (omega arith) e))
+supply-refused spec ps e = too-full (spec .supply) ps (cycle-said spec ps .is-15 (cycle-own spec ps 15 (omega arith) (omega arith) e) .2)
 
 pub demand-refused : DemandRefused
-demand-refused spec ps e = too-thin (spec .demand) ps (cycle-said spec ps .is-16 (cycle-own spec ps 16 (omega arith) (omega arith) e))
+demand-refused spec ps e = too-thin (spec .demand) ps (cycle-said spec ps .is-16 (cycle-own spec ps 16 (omega arith) (omega arith) e) .3)
 
 -- a cycle is passed exactly when its endless run obeys the four rules
 pub passed-obeys : (spec : Spec) (ps : List Pair) → IsAccepted spec → 1 ≤ length ps → length ps ≤ 512
@@ -100,12 +87,12 @@ passed-obeys spec ps accepted some few = (
       },
   λ o.
       let later : (i : ℕ) → 1 ≤ cycleRun ps .gap i = λ i. gap-allowed-pos spec (cycleRun ps .gap i) accepted (o .gaps i) in
-      sym
-      (gets-0 spec ps accepted (rw (le-leb 1 (length ps) some, le-leb (length ps) 512 few))
+      gets-cycle spec ps accepted
+      ∙ passes spec ps (count-right (length ps) some few)
       (gaps-right ps some spec .1 (o .gaps))
       (sizes-right ps some spec .1 (o .sizes))
       (supply-right ps some later (spec .supply) .1 (o .supply))
-      (demand-right ps some later (spec .demand) .1 (o .demand))),
+      (demand-right ps some later (spec .demand) .1 (o .demand)),
 )
 
 -- only an accepted specification passes a cycle, and only one of 1 to 512 pairs, none of which has more than 1,000 records

@@ -4,4 +4,6 @@ pub mod Starts
 pub mod Steps
 pub mod CyclesPassed
 pub mod Rounds
-pub mod FileNumbers
+pub mod Numbers
+pub mod PlannedSpec
+pub mod LatePassed

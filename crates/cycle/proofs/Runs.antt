@@ -19,7 +19,7 @@ use Rattle.pairs.specs.declared.Pair.{Pair}
 use Rattle.pairs.specs.Pairs.{pairsOf}
 use Rattle.pairs.proofs.FlatLists.{length-pairsOf, gap-pairsOf, size-pairsOf}
 use Rattle.schedule.specs.Schedules.{stretch}
-use Rattle.schedule.specs.Rules.{SupplyKept, DemandMet}
+use Rattle.schedule.specs.Rules.{SizesAllowed, GapsAllowed, SupplyKept, DemandMet}
 use Rattle.schedule.proofs.Before.{minute-least}
 use Rattle.schedule.proofs.Repeats.{stretch-first}
 use Rattle.cycle.specs.Cycles.{pairGap, pairSize, cycleRun, round}
@@ -41,12 +41,26 @@ module _ (ps : List Pair) where
   unfolding cycleRun
   size-again i = ap (pairSize ps) (add-mod-right i (length ps))
 
-  module _ (some : 1 ≤ length ps) where
-    pub gaps-right : (spec : Spec) → (gapsAllowed spec ps ≡ true) ↔ ((i : ℕ) → gapAllowed spec (cycleRun ps .gap i) ≡ true)
-    unfolding gapsAllowed cycleRun
-    gaps-right spec = all-again (λ j. gapAllowed spec (pairGap ps j)) (length ps) some
+  -- the reports of the first round are those of the pairs
+  pub pair-gap : (j : ℕ) → j < length ps → cycleRun ps .gap j ≡ pairGap ps j
+  unfolding cycleRun
+  pair-gap j h = ap (pairGap ps) (mod-eq-of-lt h)
 
-    pub sizes-right : (spec : Spec) → (sizesAllowed spec ps ≡ true) ↔ ((i : ℕ) → sizeAllowed spec (cycleRun ps .size i) ≡ true)
+  pub pair-size : (j : ℕ) → j < length ps → cycleRun ps .size j ≡ pairSize ps j
+  unfolding cycleRun
+  pair-size j h = ap (pairSize ps) (mod-eq-of-lt h)
+
+  module _ (some : 1 ≤ length ps) where
+    -- any test of the gaps
+    pub each-gap : (test : ℕ → Bool) → (all (λ j. test (pairGap ps j)) (length ps) ≡ true) ↔ ((i : ℕ) → test (cycleRun ps .gap i) ≡ true)
+    unfolding cycleRun
+    each-gap test = all-again (λ j. test (pairGap ps j)) (length ps) some
+
+    pub gaps-right : (spec : Spec) → (gapsAllowed spec ps ≡ true) ↔ GapsAllowed spec (cycleRun ps .gap)
+    unfolding gapsAllowed
+    gaps-right spec = each-gap (gapAllowed spec)
+
+    pub sizes-right : (spec : Spec) → (sizesAllowed spec ps ≡ true) ↔ SizesAllowed spec (cycleRun ps .size)
     unfolding sizesAllowed cycleRun
     sizes-right spec = all-again (λ j. sizeAllowed spec (pairSize ps j)) (length ps) some
 
@@ -64,14 +78,14 @@ module _ (ps : List Pair) where
       unfolding round
       first a w = stretch-first (cycleRun ps) later (length ps) size-again gap-again a w
 
-      pub supply-right : (r : Rate) → (supplyKept r ps ≡ true) ↔ SupplyKept r (cycleRun ps)
+      pub supply-right : (r : Rate) → (supplyKept r ps ≡ true) ↔ SupplyKept r (stretch (cycleRun ps))
       unfolding supplyKept
       supply-right Absent = (λ e. tt, λ h. refl)
       supply-right (Present b r) =
           let k = all-again (λ a. leb (stretch (cycleRun ps) a r) b) (round ps) round-some in
           (λ e a. rw (first a r) (leb-true _ _ (k .0 e a)), λ h. k .1 (λ a. le-leb _ _ (h (a % round ps))))
 
-      pub demand-right : (r : Rate) → (demandMet r ps ≡ true) ↔ DemandMet r (cycleRun ps)
+      pub demand-right : (r : Rate) → (demandMet r ps ≡ true) ↔ DemandMet r (stretch (cycleRun ps))
       unfolding demandMet
       demand-right Absent = (λ e. tt, λ h. refl)
       demand-right (Present l p) =

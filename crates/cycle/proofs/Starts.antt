@@ -5,15 +5,13 @@ use native.Mathlib.Omega.{arith}
 use mathlib.Core.Path.{_≡_, refl, sym}
 use mathlib.Core.Logic.{_↔_}
 use mathlib.Core.List.{List}
-use mathlib.Core.Bool.{Bool, true, false, and-eq-true-iff}
+use mathlib.Core.Bool.{Bool, true, false}
 use lib.Dec.{leb}
 use lib.ListN.{length}
 use borrow.Author.Tests.{le-leb, leb-true}
 use Rattle.numbers.proofs.All.{all-right}
 use Rattle.spec.specs.declared.Rate.{Rate}
 use Rattle.spec.specs.declared.Rate.the-variants.{Present}
-use Rattle.spec.specs.Limits.{rateLimits}
-use Rattle.spec.proofs.Facts.{leb-iff}
 use Rattle.pairs.specs.declared.Pair.{Pair}
 use Rattle.schedule.specs.Schedules.{minute, stretch}
 use Rattle.schedule.proofs.Before.{stretch-after}
@@ -21,16 +19,16 @@ use Rattle.schedule.proofs.Repeats.{full-at-report, thin-after-report}
 use Rattle.cycle.specs.declared.stretches.Rule.the-variants.{AtMost, AtLeast}
 use Rattle.cycle.specs.Cycles.{cycleRun}
 use Rattle.cycle.specs.Check.{supplyKept, demandMet}
+use Rattle.cycle.specs.PlannedSpec.{SomeMinutes}
 use Rattle.cycle.specs.Windows.{startsPass}
 use Rattle.cycle.proofs.Runs.{gap-again, size-again, supply-right, demand-right}
 
--- the minutes of a rate within its limits
-pub minutes-some : (rate : Rate) {b m : ℕ} → rate ≡ Present b m → rateLimits rate ≡ true → 1 ≤ m
-unfolding rateLimits
-minutes-some rate e h = let k = simp (and-eq-true-iff, leb-iff) at (rw e at h) in omega arith
+-- the minutes of a rate
+pub minutes-some : (rate : Rate) {b m : ℕ} → rate ≡ Present b m → SomeMinutes rate → 1 ≤ m
+minutes-some rate e h = rw e at h
 
 -- two tests are equal where they pass together
-same-test : (a b : Bool) → (a ≡ true) ↔ (b ≡ true) → a ≡ b
+pub same-test : (a b : Bool) → (a ≡ true) ↔ (b ≡ true) → a ≡ b
 same-test true b h = sym (h .0 refl)
 same-test false true h = h .1 refl
 same-test false false h = refl

@@ -1,23 +1,26 @@
--- The check step by step: what each test that passed or failed makes of the number.
-use Prim.Native.Nat.{ℕ, _/_}
+-- The number step by step: what each test that passed or failed makes of it, and which tests it says have passed or failed.
+use Prim.Native.Nat.{ℕ, _/_, _≤_}
 use native.Mathlib.Omega.{arith}
 use mathlib.Core.Path.{_≡_, refl, sym, ap}
 use mathlib.Core.List.{List}
-use mathlib.Core.Bool.{true, false}
+use mathlib.Core.Bool.{Bool, true, false}
 use lib.ListN.{length}
 use Rattle.spec.specs.declared.Spec.{Spec}
-use Rattle.spec.specs.Limits.{between, specNumber, IsAccepted}
-use Rattle.spec.proofs.Facts.{between-iff, gap-allowed-pos}
-use Rattle.spec.proofs.GoingOn.{goes-on, stops}
+use Rattle.spec.specs.Limits.{between, gapAllowed}
+use Rattle.spec.proofs.Facts.{between-iff}
 use Rattle.pairs.specs.declared.Pair.{Pair}
 use Rattle.pairs.specs.Pairs.{countIn, pairsOf}
 use Rattle.pairs.proofs.FlatLists.{length-pairsOf}
-use Rattle.cycle.specs.Check.{gapsAllowed, sizesAllowed, supplyKept, demandMet, cycleNumber, checkNumber}
+use Rattle.cycle.specs.Check.{gapsAllowed, sizesAllowed, firstRefusal}
+use Rattle.cycle.specs.PlannedSpec.{Judges}
 use Rattle.cycle.specs.Windows.{fieldsAllowed, runOf, Walkable}
 use Rattle.cycle.proofs.Runs.{gaps-right}
 
 pub count-flat : (l : List ℕ) → countIn (length l / 2) ≡ countIn (length (pairsOf l))
 count-flat l = ap countIn (sym (length-pairsOf l))
+
+pub count-right : (n : ℕ) → 1 ≤ n → n ≤ 512 → countIn n ≡ true
+count-right n some few = between-iff 1 512 n .1 (some, few)
 
 -- the two fields of the walk
 pub gaps-field : (spec : Spec) (ps : List Pair) → fieldsAllowed spec 0 ps ≡ gapsAllowed spec ps
@@ -28,47 +31,76 @@ pub sizes-field : (spec : Spec) (ps : List Pair) → fieldsAllowed spec 1 ps ≡
 unfolding fieldsAllowed sizesAllowed
 sizes-field spec ps = refl
 
-module _ (spec : Spec) (ps : List Pair) where
-  pub gets-refused : (specNumber spec ≡ 0 → ⊥) → specNumber spec ≡ checkNumber spec ps
-  unfolding checkNumber
-  gets-refused h = sym (stops (specNumber spec) (cycleNumber spec ps) (λ n. n) h)
+-- from the tests to the number
+module _ (count gaps sizes supply demand : Bool) where
+  pub gets-12 : count ≡ false → 12 ≡ firstRefusal count gaps sizes supply demand
+  unfolding firstRefusal
+  gets-12 h = rw h
 
-  module _ (accepted : IsAccepted spec) where
-    pub gets-cycle : checkNumber spec ps ≡ cycleNumber spec ps
-    unfolding checkNumber
-    gets-cycle = goes-on (specNumber spec) (cycleNumber spec ps) (λ n. n) accepted
+  module _ (counted : count ≡ true) where
+    pub gets-13 : gaps ≡ false → 13 ≡ firstRefusal count gaps sizes supply demand
+    unfolding firstRefusal
+    gets-13 h = rw (counted, h)
 
-    pub gets-12 : countIn (length ps) ≡ false → 12 ≡ checkNumber spec ps
-    unfolding cycleNumber
-    gets-12 h = rw (gets-cycle, h)
+    module _ (allowed : gaps ≡ true) where
+      pub gets-14 : sizes ≡ false → 14 ≡ firstRefusal count gaps sizes supply demand
+      unfolding firstRefusal
+      gets-14 h = rw (counted, allowed, h)
 
-    module _ (count : countIn (length ps) ≡ true) where
-      pub gets-13 : gapsAllowed spec ps ≡ false → 13 ≡ checkNumber spec ps
-      unfolding cycleNumber
-      gets-13 h = rw (gets-cycle, count, h)
+      module _ (sized : sizes ≡ true) where
+        pub gets-15 : supply ≡ false → 15 ≡ firstRefusal count gaps sizes supply demand
+        unfolding firstRefusal
+        gets-15 h = rw (counted, allowed, sized, h)
 
-      module _ (gaps : gapsAllowed spec ps ≡ true) where
-        pub gets-14 : sizesAllowed spec ps ≡ false → 14 ≡ checkNumber spec ps
-        unfolding cycleNumber
-        gets-14 h = rw (gets-cycle, count, gaps, h)
+        module _ (kept : supply ≡ true) where
+          pub gets-16 : demand ≡ false → 16 ≡ firstRefusal count gaps sizes supply demand
+          unfolding firstRefusal
+          gets-16 h = rw (counted, allowed, sized, kept, h)
 
-        module _ (sizes : sizesAllowed spec ps ≡ true) where
-          pub gets-15 : supplyKept (spec .supply) ps ≡ false → 15 ≡ checkNumber spec ps
-          unfolding cycleNumber
-          gets-15 h = rw (gets-cycle, count, gaps, sizes, h)
+          pub gets-0 : demand ≡ true → 0 ≡ firstRefusal count gaps sizes supply demand
+          unfolding firstRefusal
+          gets-0 h = rw (counted, allowed, sized, kept, h)
 
-          module _ (supply : supplyKept (spec .supply) ps ≡ true) where
-            pub gets-16 : demandMet (spec .demand) ps ≡ false → 16 ≡ checkNumber spec ps
-            unfolding cycleNumber
-            gets-16 h = rw (gets-cycle, count, gaps, sizes, supply, h)
+-- and from the number to the tests
+pub record Said (n : ℕ) (count gaps sizes supply demand : Bool) : Type 0 where
+  pub is-0 : n ≡ 0 → (count ≡ true) × (gaps ≡ true) × (sizes ≡ true) × (supply ≡ true) × (demand ≡ true)
+  pub is-13 : n ≡ 13 → gaps ≡ false
+  pub is-14 : n ≡ 14 → (gaps ≡ true) × (sizes ≡ false)
+  pub is-15 : n ≡ 15 → (gaps ≡ true) × (sizes ≡ true) × (supply ≡ false)
+  pub is-16 : n ≡ 16 → (gaps ≡ true) × (sizes ≡ true) × (supply ≡ true) × (demand ≡ false)
 
-            pub gets-0 : demandMet (spec .demand) ps ≡ true → 0 ≡ checkNumber spec ps
-            unfolding cycleNumber
-            gets-0 h = rw (gets-cycle, count, gaps, sizes, supply, h)
+-- a number is no other
+no : {A : Type 0} (n m : ℕ) → (n ≡ m → ⊥) → n ≡ m → A
+no n m h e = absurd (h e)
 
--- a flat list that got as far as its stretches: a gap that is allowed is no 0
-pub walkable : (spec : Spec) (l : List ℕ) → IsAccepted spec → between 1 512 (length l / 2) ≡ true → gapsAllowed spec (pairsOf l) ≡ true → Walkable l
-walkable spec l accepted count gaps =
+pub said : (a b c d e : Bool) → Said (firstRefusal a b c d e) a b c d e
+unfolding firstRefusal
+said true true true true true = record { is-0 = λ h. (refl, refl, refl, refl, refl); is-13 = no 0 13 (omega arith); is-14 = no 0 14 (omega arith); is-15 = no 0 15 (omega arith); is-16 = no 0 16 (omega arith) }
+said true true true true false = record { is-0 = no 16 0 (omega arith); is-13 = no 16 13 (omega arith); is-14 = no 16 14 (omega arith); is-15 = no 16 15 (omega arith); is-16 = λ h. (refl, refl, refl, refl) }
+said true true true false e = record { is-0 = no 15 0 (omega arith); is-13 = no 15 13 (omega arith); is-14 = no 15 14 (omega arith); is-15 = λ h. (refl, refl, refl); is-16 = no 15 16 (omega arith) }
+said true true false d e = record { is-0 = no 14 0 (omega arith); is-13 = no 14 13 (omega arith); is-14 = λ h. (refl, refl); is-15 = no 14 15 (omega arith); is-16 = no 14 16 (omega arith) }
+said true false c d e = record { is-0 = no 13 0 (omega arith); is-13 = λ h. refl; is-14 = no 13 14 (omega arith); is-15 = no 13 15 (omega arith); is-16 = no 13 16 (omega arith) }
+said false b c d e = record { is-0 = no 12 0 (omega arith); is-13 = no 12 13 (omega arith); is-14 = no 12 14 (omega arith); is-15 = no 12 15 (omega arith); is-16 = no 12 16 (omega arith) }
+
+-- it is none of the numbers before 12 nor after 16, but 0
+pub first-few : (a b c d e : Bool) → firstRefusal a b c d e ≤ 16
+unfolding firstRefusal
+first-few true true true true true = omega arith
+first-few true true true true false = omega arith
+first-few true true true false e = omega arith
+first-few true true false d e = omega arith
+first-few true false c d e = omega arith
+first-few false b c d e = omega arith
+
+-- where a gap of 0 is not allowed, one that is allowed is none
+pub judged-later : (spec : Spec) → gapAllowed spec 0 ≡ false → (g : ℕ) → gapAllowed spec g ≡ true → 1 ≤ g
+judged-later spec none g e =
+    let some : ¬ (g ≡ 0) = λ z. let zero = rw z at e in absurd (let y : _≡_ {A = ℕ} 0 1 = cc in omega arith) in
+    omega arith
+
+-- a flat list that got as far as its stretches
+pub walkable : (spec : Spec) (l : List ℕ) → Judges spec → between 1 512 (length l / 2) ≡ true → gapsAllowed spec (pairsOf l) ≡ true → Walkable l
+walkable spec l judges count gaps =
     let k = between-iff 1 512 (length l / 2) .0 count in
     let allowed = gaps-right (pairsOf l) (omega (arith, length-pairsOf l)) spec .0 gaps in
-    record { some = k .0; few = k .1; later = λ i. gap-allowed-pos spec (runOf l .gap i) accepted (allowed i) }
+    record { some = k .0; few = k .1; later = λ i. judged-later spec (judges .gaps) (runOf l .gap i) (allowed i) }

@@ -36,18 +36,13 @@ unfoldable pub demandMet : Rate → List Pair → Bool
 demandMet Absent ps = true
 demandMet (Present l p) ps = all (λ a. leb l (stretch (cycleRun ps) a p)) (round ps)
 
--- the first of 12 to 16 that applies, or 0
+-- the first of 12 to 16 that applies, or 0: by whether the count, the gaps, the sizes, the supply rate and the demand rate are right
+unfoldable pub firstRefusal : (count gaps sizes supply demand : Bool) → ℕ
+firstRefusal count gaps sizes supply demand = cond count (cond gaps (cond sizes (cond supply (cond demand 0 16) 15) 14) 13) 12
+
 unfoldable pub cycleNumber : Spec → List Pair → ℕ
 cycleNumber spec ps =
-    cond (countIn (length ps))
-    (cond (gapsAllowed spec ps)
-    (cond (sizesAllowed spec ps)
-    (cond (supplyKept (spec .supply) ps)
-    (cond (demandMet (spec .demand) ps) 0 16)
-    15)
-    14)
-    13)
-    12
+    firstRefusal (countIn (length ps)) (gapsAllowed spec ps) (sizesAllowed spec ps) (supplyKept (spec .supply) ps) (demandMet (spec .demand) ps)
 
 -- "Every operation given a specification as numbers begins with 3 and 4", then 24
 unfoldable pub checkNumber : Spec → List Pair → ℕ

@@ -4,24 +4,13 @@ use mathlib.Core.Path.{_≡_}
 use mathlib.Core.List.{List}
 use mathlib.Core.Bool.{false}
 use lib.ListN.{length}
-use Rattle.spec.specs.declared.Rate.{Rate}
-use Rattle.spec.specs.declared.Rate.the-variants.{Absent, Present}
 use Rattle.spec.specs.declared.Spec.{Spec}
 use Rattle.spec.specs.Limits.{sizeAllowed, gapAllowed}
 use Rattle.pairs.specs.declared.Pair.{Pair}
-use Rattle.schedule.specs.Schedules.{Schedule, stretch}
+use Rattle.schedule.specs.Schedules.{stretch}
+use Rattle.schedule.specs.Rules.{TooFull, TooThin}
 use Rattle.cycle.specs.Cycles.{pairGap, pairSize, cycleRun}
 use Rattle.cycle.specs.Check.{checkNumber}
-
--- some stretch of R minutes holds more than B records
-abbrev pub TooFull : Rate → Schedule → Type 0
-TooFull Absent s = ⊥
-TooFull (Present b r) s = (a : ℕ) × (b < stretch s a r)
-
--- some stretch of P minutes holds fewer than L records
-abbrev pub TooThin : Rate → Schedule → Type 0
-TooThin Absent s = ⊥
-TooThin (Present l p) s = (a : ℕ) × (stretch s a p < l)
 
 -- Each number from 13 on has its witness: a pair whose gap or whose size is not allowed, a stretch that is too full or too thin.
 abbrev pub GapRefused : Type 0
@@ -31,7 +20,7 @@ abbrev pub SizeRefused : Type 0
 SizeRefused = (spec : Spec) (ps : List Pair) → checkNumber spec ps ≡ 14 → (j : ℕ) × ((j < length ps) × (sizeAllowed spec (pairSize ps j) ≡ false))
 
 abbrev pub SupplyRefused : Type 0
-SupplyRefused = (spec : Spec) (ps : List Pair) → checkNumber spec ps ≡ 15 → TooFull (spec .supply) (cycleRun ps)
+SupplyRefused = (spec : Spec) (ps : List Pair) → checkNumber spec ps ≡ 15 → TooFull (spec .supply) (stretch (cycleRun ps))
 
 abbrev pub DemandRefused : Type 0
-DemandRefused = (spec : Spec) (ps : List Pair) → checkNumber spec ps ≡ 16 → TooThin (spec .demand) (cycleRun ps)
+DemandRefused = (spec : Spec) (ps : List Pair) → checkNumber spec ps ≡ 16 → TooThin (spec .demand) (stretch (cycleRun ps))

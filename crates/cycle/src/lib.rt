@@ -1,8 +1,10 @@
-// Checking a cycle: 0, or the number with which document 01 refuses it (3, 4, 24, 12 to 16). The check lays its stretches over the
+// Checking a cycle: 0, or the number with which documents 01 and 02 refuse it (3, 4, 24, 12 to 16). The check lays its stretches over the
 // endless repetition with two ends that only go forward, and counts whole rounds by a product, so its work is linear in the
 // number of pairs however short a round is (`stretches`). No pair is written anywhere: the stretches lie on the one round that is lent.
-// What pairs are is the crate `pairs`', their file another's; the C call over a lent list of pairs, which unpacks it and calls
-// `check_file`, is exported by `maxeltu`.
+// A cycle whose reports may be late (26 after 24) gets the same check, against the specification that its planned minutes must meet
+// (`planned`). What pairs are is the crate `pairs`', their file another's; the C calls over a lent list of pairs, which unpack it and call
+// `check_file` and `check_late_file`, are exported by `maxeltu`.
+mod planned;
 mod stretches;
 
 use spec::Rate;
@@ -11,14 +13,17 @@ use spec::SpecRead;
 use spec::refusal;
 use stretches::Rule;
 ghost use mathlib.Core.Path.{_≡_};
-ghost use mathlib.Core.Bool.{true};
 ghost use Prim.Native.Nat.{_/_, _<_, _≤_};
 ghost use lib.ListN.{length};
-ghost use Rattle.spec.specs.Limits.{rateLimits};
 ghost use Rattle.spec.specs.File.{readSpec};
 ghost use Rattle.pairs.specs.Pairs.{pairsOf};
-ghost use Rattle.cycle.specs.Check.{supplyKept, demandMet, checkNumber, checkFileNumber};
+ghost use Rattle.cycle.specs.Check.{supplyKept, demandMet, cycleNumber, checkNumber, checkFileNumber};
+ghost use Rattle.cycle.specs.LateCheck.{lateNumber, lateFileNumber};
+ghost use Rattle.cycle.specs.PlannedSpec.{SomeMinutes, Judges};
 ghost use Rattle.cycle.specs.Windows.{fieldAllowed, fieldsAllowed, Walkable};
+
+// The most minutes that a report may be late.
+pub const MOST_LATE: u32 = 1440;
 
 // Whether a pair's field may be x: its gap is field 0, its size field 1.
 fn field_allowed(spec: Spec, field: usize, x: u16) -> bool
@@ -49,7 +54,7 @@ fn fields_allowed(spec: Spec, words: &[u16], field: usize) -> bool
 
 // The fullest stretches start at a report.
 fn supply_kept(rate: Rate, words: &[u16]) -> bool
-    requires { ⌜ Walkable (now words) × (rateLimits rate ≡ true) ⌝ }
+    requires { ⌜ Walkable (now words) × SomeMinutes rate ⌝ }
     ensures { λ r. ⌜ r ≡ supplyKept rate (pairsOf (now (words .entry))) ⌝ }
 {
     match rate {
@@ -77,14 +82,11 @@ fn demand_met(rate: Rate, words: &[u16]) -> bool
     }
 }
 
-// The number of a cycle that is held flat: gap, size, gap, size, ..
-pub fn check(spec: Spec, words: &[u16]) -> u32
-    ensures { λ r. ⌜ r ≡ checkNumber spec (pairsOf (now (words .entry))) ⌝ }
+// 12 to 16, or 0, by rules that ask for no gap of 0 and no stretch of 0 minutes.
+fn cycle_number(spec: Spec, words: &[u16]) -> u32
+    requires { ⌜ Judges spec ⌝ }
+    ensures { λ r. ⌜ r ≡ cycleNumber spec (pairsOf (now (words .entry))) ⌝ }
 {
-    let refused = spec::spec_number(spec);
-    if refused != 0 {
-        return refused;
-    }
     let count = words.len() / 2;
     if !pairs::count_in(count) {
         return refusal::COUNT;
@@ -106,7 +108,32 @@ pub fn check(spec: Spec, words: &[u16]) -> u32
     0
 }
 
-// The same against a specification's file: only an accepted specification goes on.
+// The number of a cycle that is held flat: gap, size, gap, size, ..
+pub fn check(spec: Spec, words: &[u16]) -> u32
+    ensures { λ r. ⌜ r ≡ checkNumber spec (pairsOf (now (words .entry))) ⌝ }
+{
+    let refused = spec::spec_number(spec);
+    if refused != 0 {
+        return refused;
+    }
+    cycle_number(spec, words)
+}
+
+// The same where each report may arrive up to `lateness` minutes late.
+pub fn check_late(spec: Spec, words: &[u16], lateness: u32) -> u32
+    ensures { λ r. ⌜ r ≡ lateNumber spec lateness (pairsOf (now (words .entry))) ⌝ }
+{
+    let refused = spec::spec_number(spec);
+    if refused != 0 {
+        return refused;
+    }
+    if MOST_LATE < lateness {
+        return refusal::TOO_LATE;
+    }
+    cycle_number(planned::planned_spec(spec, lateness as u16), words)
+}
+
+// Both against a specification's file: only an accepted specification goes on.
 pub fn check_file(spec_bytes: &[u8], words: &[u16]) -> u32
     ensures { λ r. ⌜ r ≡ checkFileNumber (readSpec (now («spec_bytes» .entry))) (pairsOf (now (words .entry))) ⌝ }
 {
@@ -115,4 +142,14 @@ pub fn check_file(spec_bytes: &[u8], words: &[u16]) -> u32
         return spec::read_number(read);
     };
     check(accepted, words)
+}
+
+pub fn check_late_file(spec_bytes: &[u8], words: &[u16], lateness: u32) -> u32
+    ensures { λ r. ⌜ r ≡ lateFileNumber (readSpec (now («spec_bytes» .entry))) lateness (pairsOf (now (words .entry))) ⌝ }
+{
+    let read = spec::read_spec(spec_bytes);
+    let SpecRead::Accepted(accepted) = read else {
+        return spec::read_number(read);
+    };
+    check_late(accepted, words, lateness)
 }

@@ -13,6 +13,7 @@ use Rattle.spec.specs.declared.Rate.the-variants.{Absent, Present}
 use Rattle.spec.specs.declared.Spec.{Spec}
 use Rattle.spec.specs.Limits.{rateLimits, IsAccepted, gapAllowed}
 use Rattle.spec.proofs.Facts.{facts, leb-iff, size-allowed-iff, gap-allowed-pos}
+use Rattle.schedule.specs.Schedules.{stretch}
 use Rattle.schedule.specs.Rules.{Obeys, SupplyKept, DemandMet}
 use Rattle.schedule.proofs.Sums.{block, block-none, block-add, block-part, block-most, block-least}
 use Rattle.plan.specs.Plans.{evenSize}
@@ -42,7 +43,7 @@ module _ (g : ℕ) (pos : 0 < g) where
       let v : ¬ (p / g ≡ 0) = λ z. let w = rw (z, zero-mul) at u in omega arith in
       record { some = omega arith; low = le-max-left _ _; high = max-le (mul-le-mul-left (p / g) h) u }
 
-  supply-kept : (r : Rate) (m δ : ℕ) → 0 < m → supplyFits r g m δ ≡ true → SupplyKept r (evenly g (evenSize m δ))
+  supply-kept : (r : Rate) (m δ : ℕ) → 0 < m → supplyFits r g m δ ≡ true → SupplyKept r (stretch (evenly g (evenSize m δ)))
   unfolding supplyFits
   supply-kept Absent m δ h e = tt
   supply-kept (Present b r) m δ h e = λ a.
@@ -50,7 +51,7 @@ module _ (g : ℕ) (pos : 0 < g) where
       (le-trans (block-part (evenSize m δ) (ceil a g) _ (ceil r g) (omega (arith, ceil-add-most g pos a r)))
       (even-block-most m δ h b (ceil a g) (ceil r g) (leb-true _ _ e)))
 
-  demand-met : (r : Rate) (dmin : ℕ) → 0 < countAt r g → DemandMet r (evenly g (evenSize (countAt r g) (totalOf r dmin (countAt r g))))
+  demand-met : (r : Rate) (dmin : ℕ) → 0 < countAt r g → DemandMet r (stretch (evenly g (evenSize (countAt r g) (totalOf r dmin (countAt r g)))))
   unfolding countAt totalOf
   demand-met Absent dmin h = tt
   demand-met (Present l p) dmin h = λ a.
@@ -74,20 +75,20 @@ module _ (g : ℕ) (pos : 0 < g) where
     blocks-most b n h (suc q) i = rw (suc-mul, suc-mul, block-add f i (q * n) n) (omega (arith, blocks-most b n h q i, h (i + q * n)))
 
     -- every k reports that don't include report 0 hold at least δ
-    pub demand-blocks : (r : Rate) (dmin : ℕ) → ((i : ℕ) → dmin ≤ f i) → DemandMet r (evenly g f)
+    pub demand-blocks : (r : Rate) (dmin : ℕ) → ((i : ℕ) → dmin ≤ f i) → DemandMet r (stretch (evenly g f))
         → (j : ℕ) → totalOf r dmin (countAt r g) ≤ block f (j + 1) (countAt r g)
     unfolding totalOf countAt
     demand-blocks Absent dmin h d j = let u = block-least f dmin h (j + 1) 1 in omega arith
     demand-blocks (Present l p) dmin h d j =
         max-le (block-least f dmin h (j + 1) (p / g)) (rw (stretch-after-report g pos f j p) at (d (j * g + 1)))
 
-    demand-fits : (r : Rate) (dmax : ℕ) → ((i : ℕ) → f i ≤ dmax) → DemandMet r (evenly g f) → demandFits r dmax (countAt r g) ≡ true
+    demand-fits : (r : Rate) (dmax : ℕ) → ((i : ℕ) → f i ≤ dmax) → DemandMet r (stretch (evenly g f)) → demandFits r dmax (countAt r g) ≡ true
     unfolding demandFits countAt
     demand-fits Absent dmax h d = refl
     demand-fits (Present l p) dmax h d =
         le-leb _ _ (le-trans (rw (stretch-after-report g pos f 0 p) at (d (0 * g + 1))) (block-most f dmax h 1 (p / g)))
 
-    supply-fits : (r : Rate) (m δ : ℕ) → ((j : ℕ) → δ ≤ block f (j + 1) m) → SupplyKept r (evenly g f) → supplyFits r g m δ ≡ true
+    supply-fits : (r : Rate) (m δ : ℕ) → ((j : ℕ) → δ ≤ block f (j + 1) m) → SupplyKept r (stretch (evenly g f)) → supplyFits r g m δ ≡ true
     unfolding supplyFits
     supply-fits Absent m δ h k = refl
     supply-fits (Present b r) m δ h k =

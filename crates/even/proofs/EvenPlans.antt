@@ -27,7 +27,7 @@ use Rattle.even.specs.declared.EvenPlan.the-variants.{Found, Refused}
 use Rattle.even.specs.Even.{evenGap, evenPlan, planOr10, evenPlanAt, evenOf, fits, countAt, evenly}
 use Rattle.even.specs.Statements.{EvenPlanGiven}
 use Rattle.even.proofs.Search.{Largest, largest-right}
-use Rattle.even.proofs.EvenFits.{fits-holds, fits-obeys, obeys-fits}
+use Rattle.even.proofs.EvenFits.{sizesAt, fits-holds, fits-obeys, obeys-fits}
 use Rattle.even.proofs.Cases.{plan-none, plan-some}
 
 -- What is known where a plan is given, or 10 to an accepted specification.
@@ -97,10 +97,12 @@ module _ (s : Spec) (g : ℕ) (ok : IsAccepted s) (allowed : gapAllowed s g ≡ 
   unfolding evenPlanAt
   plan-at-proper = sym (proper-kind (evenPlanAt s g) bounds refl) ∙ rw (mul-mod-right (countAt (s .demand) g) g)
 
-  plan-at-obeys : Obeys s (run (evenPlanAt s g))
+  plan-at-run : run (evenPlanAt s g) ≡ evenly g (sizesAt s g)
   unfolding evenPlanAt run kindRun
-  plan-at-obeys =
-      rw (mul-div-cancel-left g (fits-holds s g ok (gap-allowed-pos s g ok allowed) e .some)) (fits-obeys s g ok allowed e)
+  plan-at-run = rw (mul-div-cancel-left g (fits-holds s g ok (gap-allowed-pos s g ok allowed) e .some))
+
+  plan-at-obeys : Obeys s (run (evenPlanAt s g))
+  plan-at-obeys = rw plan-at-run (fits-obeys s g ok allowed e)
 
   plan-at-gap : evenPlanAt s g .period / evenPlanAt s g .count ≡ g
   unfolding evenPlanAt

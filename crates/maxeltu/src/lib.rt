@@ -16,6 +16,7 @@ ghost use Prim.Native.Nat.{_/_, min};
 ghost use lib.ListN.{length};
 ghost use Rattle.spec.specs.File.{ifRead, readSpec};
 ghost use Rattle.cycle.specs.Check.{checkFileNumber};
+ghost use Rattle.cycle.specs.LateCheck.{lateFileNumber};
 ghost use Rattle.pairs.specs.Pairs.{flatten, pairsOf, laidOver};
 ghost use Rattle.cyclefile.specs.File.{readCycle, storedPairs, Reads, Writes};
 ghost use Rattle.families.specs.declared.Family.the-variants.{MinimumDemand, MaximumSupply};
@@ -293,6 +294,16 @@ pub extern "C" fn maxeltu_check_cycle(spec_bytes: &[u8], pairs: &[Pair]) -> u32
     let mut words = [0u16; 1024];
     let used = pairs::unpack(pairs, &mut words);
     cycle::check_file(spec_bytes, &words[..used])
+}
+
+// The same where each report may arrive up to `lateness` minutes late.
+#[no_mangle]
+pub extern "C" fn maxeltu_check_late(spec_bytes: &[u8], pairs: &[Pair], lateness: u32) -> u32
+    ensures { λ r. ⌜ r ≡ lateFileNumber (readSpec (now («spec_bytes» .entry))) lateness (now (pairs .entry)) ⌝ }
+{
+    let mut words = [0u16; 1024];
+    let used = pairs::unpack(pairs, &mut words);
+    cycle::check_late_file(spec_bytes, &words[..used], lateness)
 }
 
 // What the first reports of a cycle that is held flat cost, against a specification's file.

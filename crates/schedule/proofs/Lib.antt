@@ -4,3 +4,5 @@ pub mod Before
 pub mod Moments
 pub mod StretchSum
 pub mod Repeats
+pub mod Timed
+pub mod Delays

@@ -1,3 +1,4 @@
 pub mod Schedules
 pub mod Moments
+pub mod Timed
 pub mod Rules

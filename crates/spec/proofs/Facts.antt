@@ -137,19 +137,27 @@ gap-allowed-iff s g = (
   λ h. either-iff _ _ .1 (⊎-elim (λ k. inl (between-iff (s .smin) (s .smax) g .1 k)) (λ k. inr k) h),
 )
 
-pub in-range-iff : (x : Range) (g : ℕ) → (inRange x g ≡ true) ↔ ((lo : ℕ) × (hi : ℕ) × (x ≡ RangeOf lo hi) × (lo ≤ g) × (g ≤ hi))
+-- no number is in a range that is absent
+pub in-none : (g : ℕ) → ¬ (inRange NoRange g ≡ true)
 unfolding inRange
+in-none g e = absurd (let z : _≡_ {A = ℕ} 0 1 = cc in omega arith)
+
+pub in-bounds : (lo hi g : ℕ) → (inRange (RangeOf lo hi) g ≡ true) ↔ ((lo ≤ g) × (g ≤ hi))
+unfolding inRange
+in-bounds lo hi g = between-iff lo hi g
+
+pub in-range-iff : (x : Range) (g : ℕ) → (inRange x g ≡ true) ↔ ((lo : ℕ) × (hi : ℕ) × (x ≡ RangeOf lo hi) × (lo ≤ g) × (g ≤ hi))
 in-range-iff NoRange g = (
-  λ e. absurd (let z : _≡_ {A = ℕ} 0 1 = cc in omega arith),
+  λ e. absurd (in-none g e),
   λ h. absurd (let e : NoRange ≡ RangeOf (h .0) (h .1) = h .2 in let z : _≡_ {A = ℕ} 0 1 = cc in omega arith),
 )
 in-range-iff (RangeOf lo hi) g = (
-  λ e. let k = between-iff lo hi g .0 e in (lo, hi, refl, k .0, k .1),
+  λ e. let k = in-bounds lo hi g .0 e in (lo, hi, refl, k .0, k .1),
   λ h.
       let e : RangeOf lo hi ≡ RangeOf (h .0) (h .1) = h .2 in
       let low : lo ≡ h .0 = cc in
       let high : hi ≡ h .1 = cc in
-      between-iff lo hi g .1 (omega (arith, h .3), omega (arith, h .4)),
+      in-bounds lo hi g .1 (omega (arith, h .3), omega (arith, h .4)),
 )
 
 -- so it is in either

@@ -39,6 +39,9 @@ pub const TOO_FULL: u32 = 15;
 
 pub const TOO_THIN: u32 = 16;
 
+// Checking a cycle whose reports may be late, before COUNT.
+pub const TOO_LATE: u32 = 26;
+
 // Reading and writing a cycle file.
 pub const PAIR_MAP: u32 = 17;
 

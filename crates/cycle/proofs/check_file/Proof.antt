@@ -1,7 +1,8 @@
 -- `check_file` meets its contract, by what reading the specification gave.
 use mathlib.Core.Path.{_∙_}
 use borrow.Author.Needs.{needs}
-use Rattle.cycle.proofs.FileNumbers.{read-refused, read-accepted}
+use Rattle.cycle.specs.Check.{checkFileNumber}
+use Rattle.cycle.proofs.Numbers.{read-refused, read-accepted}
 use Rattle.cycle.proofs.check_file.Statement.{statement}
 use Rattle.cycle.proofs.check_file.Tie as tie
 
@@ -18,12 +19,14 @@ read-number-requires : tie.Need-read-number-requires
 read-number-requires c κs = search needs
 
 returns : tie.Need-returns
+unfolding checkFileNumber
 returns c = rw (← c .before .before .before .read-spec .ensures) (c .read-number .ensures ∙ read-refused _ (c .before .enum-told .given .1))
 
 check-requires : tie.Need-check-requires
 check-requires c κs = search needs
 
 returns-2 : tie.Need-returns-2
+unfolding checkFileNumber
 returns-2 c =
     let read = c .before .before in
     rw (← read .before .before .read-spec .ensures) (c .check .ensures ∙ read-accepted _ (read .read .given .1))

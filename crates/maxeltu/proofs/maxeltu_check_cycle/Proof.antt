@@ -50,7 +50,7 @@ use Rattle.pairs.proofs.unpack.Symbol as unpack-def
 use Rattle.pairs.proofs.unpack.Symbol.{name as #pairs·unpack}
 use Rattle.pairs.proofs.unpack.Met as unpack-thm
 use Rattle.cycle.specs.Check.{checkFileNumber}
-use Rattle.cycle.proofs.FileNumbers.{fit-number}
+use Rattle.cycle.proofs.Numbers.{fit-number}
 use Rattle.cycle.proofs.check_file as check
 use Rattle.cycle.proofs.check_file.Symbol as check-def
 use Rattle.cycle.proofs.check_file.Symbol.{name as #cycle·check-file}

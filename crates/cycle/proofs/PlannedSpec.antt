@@ -1,0 +1,224 @@
+-- The specification that planned minutes must meet. Where ranges that touch are joined, every gap from g - J to g + J is allowed exactly when
+-- g is J minutes or more inside one range: otherwise some gap between the two ranges, or past them, is among those. So the check with
+-- lateness is the check against that specification; and with J = 0 that is the given one.
+use Prim.Native.Nat.{ℕ, _+_, _-_, _*_, _^_, _≤_, _<_}
+use native.Mathlib.Omega.{arith}
+use native.Mathlib.Nat.{add-zero}
+use mathlib.Core.Path.{_≡_, refl, sym, _∙_}
+use mathlib.Core.Logic.{_↔_, _⊎_, inl, inr, ⊎-elim}
+use mathlib.Core.List.{List}
+use mathlib.Core.Bool.{Bool, true, false, and-eq-true-iff}
+use lib.ListN.{length}
+use borrow.Author.Tests.{eq-eqb, ne-eqb}
+use Rattle.numbers.specs.Numbers.{all}
+use Rattle.numbers.proofs.All.{all-right}
+use Rattle.numbers.proofs.Cases.{lt-cases}
+use Rattle.spec.specs.declared.Rate.{Rate}
+use Rattle.spec.specs.declared.Rate.the-variants.{Absent, Present}
+use Rattle.spec.specs.declared.Range.{Range}
+use Rattle.spec.specs.declared.Range.the-variants.{Absent as NoRange, Present as RangeOf}
+use Rattle.spec.specs.declared.Spec.{Spec}
+use Rattle.spec.specs.Limits.{rateLimits, rangeLimits, inRange, IsAccepted, sizeAllowed, gapAllowed}
+use Rattle.spec.proofs.Facts.{leb-iff, facts, range-limits-iff, Second, second-range, gap-allowed-iff, in-none, in-bounds, gap-allowed-pos}
+use Rattle.pairs.specs.declared.Pair.{Pair}
+use Rattle.cycle.specs.Cycles.{pairGap}
+use Rattle.cycle.specs.Check.{gapsAllowed, sizesAllowed, cycleNumber, checkNumber}
+use Rattle.cycle.specs.LateCheck.{lateGapAllowed, lateGapsAllowed, lateSupply, lateDemand, lateCycleNumber, lateNumber}
+use Rattle.cycle.specs.PlannedSpec.{joinedEnd, shortened, plannedSpec, SomeMinutes, Judges}
+use Rattle.cycle.proofs.Starts.{same-test}
+
+-- a rate's minutes and a range's bounds, with J added, fit 16 bits
+pub minutes-fit : (rate : Rate) {b m lateness : ℕ} → rate ≡ Present b m → rateLimits rate ≡ true → lateness ≤ 1440 → m + lateness < 2 ^ 16
+unfolding rateLimits
+minutes-fit rate e h few = let k = simp (and-eq-true-iff, leb-iff) at (rw e at h) in omega arith
+
+pub bound-fits : (range : Range) {lo hi lateness : ℕ} → range ≡ RangeOf lo hi → rangeLimits 20160 range ≡ true → lateness ≤ 1440 → lo + lateness < 2 ^ 16
+bound-fits range {lo} {hi} e h few = omega (arith, range-limits-iff 20160 lo hi .0 (rw e at h) .1)
+
+-- what a gap of 0, and a rate's minutes, are in an accepted specification
+pub some-minutes : (rate : Rate) → rateLimits rate ≡ true → SomeMinutes rate
+unfolding rateLimits
+some-minutes Absent h = tt
+some-minutes (Present b m) h = let k = simp (and-eq-true-iff, leb-iff) at h in omega arith
+
+not-allowed : (spec : Spec) (g : ℕ) → ¬ (gapAllowed spec g ≡ true) → gapAllowed spec g ≡ false
+not-allowed spec g h = pick (gapAllowed spec g) refl
+  where
+    pick : (b : Bool) → gapAllowed spec g ≡ b → b ≡ false
+    pick true e = absurd (h e)
+    pick false e = refl
+
+pub accepted-judges : (spec : Spec) → IsAccepted spec → Judges spec
+accepted-judges spec accepted = record {
+  gaps = not-allowed spec 0 (λ e. omega (arith, gap-allowed-pos spec 0 accepted e));
+  supply = some-minutes (spec .supply) (facts spec accepted .supply);
+}
+
+-- x is in a to b
+abbrev In : ℕ → ℕ → ℕ → Type 0
+In a b x = (a ≤ x) × (x ≤ b)
+
+-- The first range is a to b, the second c to d, above it. Ranges that touch join, so the first then ends with d; otherwise b + 1 is in
+-- neither.
+module _ (a b c d : ℕ) (low : 1 ≤ a) (above : b < c) (second : c ≤ d) where
+  touching : c ≡ b + 1 → joinedEnd b (RangeOf c d) ≡ d
+  unfolding joinedEnd
+  touching e = rw (eq-eqb c (b + 1) e)
+
+  apart : ¬ (c ≡ b + 1) → joinedEnd b (RangeOf c d) ≡ b
+  unfolding joinedEnd
+  apart h = rw (ne-eqb c (b + 1) h)
+
+  end-cases : ((c ≡ b + 1) × (joinedEnd b (RangeOf c d) ≡ d)) ⊎ ((b + 1 < c) × (joinedEnd b (RangeOf c d) ≡ b))
+  end-cases = ⊎-elim (λ h. inr (h, apart (λ e. omega arith))) (λ h. let e : c ≡ b + 1 = omega arith in inl (e, touching e)) (lt-cases (b + 1) c)
+
+  module _ (lo hi : ℕ) (some : lo ≤ hi) where
+    pub inside : ((x : ℕ) → In lo hi x → In a b x ⊎ In c d x) → ((a ≤ lo) × (hi ≤ joinedEnd b (RangeOf c d))) ⊎ ((c ≤ lo) × (hi ≤ d))
+    inside h = ⊎-elim first (λ p. inr (p .0, ⊎-elim (λ q. absurd (omega arith)) (λ q. q .1) (h hi (some, omega arith)))) (h lo (omega arith, some))
+      where
+        first : In a b lo → ((a ≤ lo) × (hi ≤ joinedEnd b (RangeOf c d))) ⊎ ((c ≤ lo) × (hi ≤ d))
+        first p =
+            ⊎-elim
+            (λ joined. inl (p .0, ⊎-elim (λ q. omega arith) (λ q. omega arith) (h hi (some, omega arith))))
+            (λ ends.
+            inl (
+              p .0,
+              ⊎-elim
+                  (λ (over : b < hi). absurd (⊎-elim (λ q. omega arith) (λ q. omega arith) (h (b + 1) (omega arith, omega arith))))
+                  (λ (within : hi ≤ b). omega arith)
+                  (lt-cases b hi),
+            ))
+            end-cases
+
+    pub covers : ((a ≤ lo) × (hi ≤ joinedEnd b (RangeOf c d))) ⊎ ((c ≤ lo) × (hi ≤ d)) → (x : ℕ) → In lo hi x → In a b x ⊎ In c d x
+    covers h x q =
+        ⊎-elim
+        (λ p.
+        ⊎-elim
+        (λ past. ⊎-elim (λ joined. inr (omega arith, omega arith)) (λ ends. absurd (omega arith)) end-cases)
+        (λ until. inl (omega arith, omega arith))
+        (lt-cases b x))
+        (λ p. inr (omega arith, omega arith))
+        h
+
+-- the gaps that a delayed one can be, from g - J to g + J
+abbrev Near : ℕ → ℕ → ℕ → Type 0
+Near lateness g x = In (g - lateness) (g + lateness) x
+
+near-iff : (spec : Spec) (lateness g : ℕ) → (lateGapAllowed spec lateness g ≡ true) ↔ ((x : ℕ) → Near lateness g x → gapAllowed spec x ≡ true)
+unfolding lateGapAllowed
+near-iff spec lateness g =
+    let k = all-right (λ x. gapAllowed spec (g + x - lateness)) (2 * lateness + 1) in (
+      λ e x q. let z : g + (x + lateness - g) - lateness ≡ x = omega arith in rw z at (k .0 e (x + lateness - g) (omega arith)),
+      λ h. k .1 (λ y q. h (g + y - lateness) (omega arith, omega arith)),
+    )
+
+module _ (spec : Spec) (accepted : IsAccepted spec) (lateness g : ℕ) where
+  -- what it is for a gap to be allowed of planned reports, and for all that it can become to be allowed, by the second range
+  abbrev Planned : Range → Type 0
+  Planned x = In (spec .smin + lateness) (joinedEnd (spec .smax) x - lateness) g ⊎ (inRange (shortened lateness x) g ≡ true)
+
+  abbrev Arrived : Range → Type 0
+  Arrived x = (y : ℕ) → Near lateness g y → In (spec .smin) (spec .smax) y ⊎ (inRange x y ≡ true)
+
+  no-second : Planned NoRange ↔ Arrived NoRange
+  unfolding shortened joinedEnd
+  no-second =
+      let f = facts spec accepted in (
+        λ h y q. ⊎-elim (λ k. inl (omega (arith, f .gap-low), omega (arith, f .gap-low))) (λ k. absurd (in-none g k)) h,
+        λ h.
+            let first : (y : ℕ) → Near lateness g y → In (spec .smin) (spec .smax) y = λ y q. ⊎-elim (λ k. k) (λ k. absurd (in-none y k)) (h y q) in
+            inl (omega (arith, f .gap-low, first (g - lateness) (omega arith, omega arith)), omega (arith, first (g + lateness) (omega arith, omega arith))),
+      )
+
+  both-ranges : (c d : ℕ) → spec .second ≡ RangeOf c d → Planned (RangeOf c d) ↔ Arrived (RangeOf c d)
+  unfolding shortened
+  both-ranges c d e =
+      let f = facts spec accepted in
+      let two = second-range spec c d accepted e in
+      let lo = g - lateness in
+      let hi = g + lateness in
+      let end = joinedEnd (spec .smax) (RangeOf c d) in
+      let some : lo ≤ hi = omega arith in (
+        λ h y q.
+            let within : ((spec .smin ≤ lo) × (hi ≤ end)) ⊎ ((c ≤ lo) × (hi ≤ d)) =
+            ⊎-elim
+            (λ k. inl (omega arith, omega (arith, f .gap-low)))
+            (λ k. let b = in-bounds (c + lateness) (d - lateness) g .0 k in inr (omega arith, omega (arith, two .above)))
+            h in
+            ⊎-elim (λ k. inl k) (λ k. inr (in-bounds c d y .1 k)) (covers (spec .smin) (spec .smax) c d (f .gap-low) (two .above) (two .order) lo hi some within y q),
+        λ h.
+            let each : (y : ℕ) → In lo hi y → In (spec .smin) (spec .smax) y ⊎ In c d y = λ y q. ⊎-elim (λ k. inl k) (λ k. inr (in-bounds c d y .0 k)) (h y q) in
+            ⊎-elim
+            (λ k. inl (omega (arith, f .gap-low), omega arith))
+            (λ k. inr (in-bounds (c + lateness) (d - lateness) g .1 (omega (arith, two .above), omega arith)))
+            (inside (spec .smin) (spec .smax) c d (f .gap-low) (two .above) (two .order) lo hi some each),
+      )
+
+  by-range : (x : Range) → spec .second ≡ x → Planned x ↔ Arrived x
+  by-range NoRange e = no-second
+  by-range (RangeOf c d) e = both-ranges c d e
+
+  pub planned-gap : lateGapAllowed spec lateness g ≡ gapAllowed (plannedSpec spec lateness) g
+  unfolding plannedSpec
+  planned-gap =
+      let near = near-iff spec lateness g in
+      let ranges = by-range (spec .second) refl in
+      let allowed = gap-allowed-iff (plannedSpec spec lateness) g in
+      same-test _ _ (
+        λ e. allowed .1 (ranges .1 (λ y q. gap-allowed-iff spec y .0 (near .0 e y q))),
+        λ e. near .1 (λ y q. gap-allowed-iff spec y .1 (ranges .0 (allowed .0 e) y q)),
+      )
+
+-- tests that are the same at each place
+all-same : (f g : ℕ → Bool) (n : ℕ) → ((j : ℕ) → f j ≡ g j) → all f n ≡ all g n
+all-same f g n h =
+    same-test _ _ (
+      λ e. all-right g n .1 (λ j q. sym (h j) ∙ all-right f n .0 e j q),
+      λ e. all-right f n .1 (λ j q. h j ∙ all-right g n .0 e j q),
+    )
+
+-- the check with lateness is the check against that specification, which can be judged by
+module _ (spec : Spec) (lateness : ℕ) (accepted : IsAccepted spec) where
+  pub planned-number : (ps : List Pair) → lateCycleNumber spec lateness ps ≡ cycleNumber (plannedSpec spec lateness) ps
+  unfolding lateCycleNumber cycleNumber lateGapsAllowed gapsAllowed sizesAllowed sizeAllowed plannedSpec
+  planned-number ps =
+      rw (all-same (λ j. lateGapAllowed spec lateness (pairGap ps j)) (λ j. gapAllowed (plannedSpec spec lateness) (pairGap ps j)) (length ps) (λ j. planned-gap spec accepted lateness (pairGap ps j)))
+
+  longer : (rate : Rate) → rateLimits rate ≡ true → SomeMinutes (lateSupply lateness rate)
+  unfolding lateSupply
+  longer Absent h = tt
+  longer (Present b r) h = let k : 1 ≤ r = some-minutes (Present b r) h in omega arith
+
+  -- a gap of 0 is not allowed: on the way from -J to J it is 0
+  pub planned-judges : Judges (plannedSpec spec lateness)
+  unfolding plannedSpec
+  planned-judges = record {
+    gaps = not-allowed (plannedSpec spec lateness) 0
+        (λ e. omega (arith, gap-allowed-pos spec 0 accepted (near-iff spec lateness 0 .0 (planned-gap spec accepted lateness 0 ∙ e) 0 (omega arith, omega arith))));
+    supply = longer (spec .supply) (facts spec accepted .supply);
+  }
+
+-- on time, with J = 0: of the gaps from g to g there is one, and the rates are the given ones
+gap-on-time : (spec : Spec) (g : ℕ) → lateGapAllowed spec 0 g ≡ gapAllowed spec g
+gap-on-time spec g =
+    let near = near-iff spec 0 g in
+    same-test _ _ (
+      λ e. near .0 e g (omega arith, omega arith),
+      λ e. near .1 (λ x q. let z : x ≡ g = omega arith in rw z e),
+    )
+
+supply-on-time : (rate : Rate) → lateSupply 0 rate ≡ rate
+unfolding lateSupply
+supply-on-time Absent = refl
+supply-on-time (Present b r) = rw add-zero
+
+demand-on-time : (rate : Rate) → lateDemand 0 rate ≡ rate
+unfolding lateDemand
+demand-on-time Absent = refl
+demand-on-time (Present l p) = let e : p - 0 ≡ p = omega arith in rw e
+
+pub on-time-same : (spec : Spec) (ps : List Pair) → lateNumber spec 0 ps ≡ checkNumber spec ps
+unfolding lateNumber lateCycleNumber lateGapsAllowed checkNumber cycleNumber gapsAllowed
+on-time-same spec ps =
+    rw (all-same (λ j. lateGapAllowed spec 0 (pairGap ps j)) (λ j. gapAllowed spec (pairGap ps j)) (length ps) (λ j. gap-on-time spec (pairGap ps j)), supply-on-time (spec .supply), demand-on-time (spec .demand))

@@ -1,0 +1,30 @@
+-- `joined_end` meets its contract, by cases: no second range, one that touches the first, one that does not.
+use borrow.Author.Needs.{needs}
+use borrow.Author.Tests.{eq-eqb, ne-eqb}
+use Rattle.cycle.specs.PlannedSpec.{joinedEnd}
+use Rattle.cycle.proofs.planned.joined_end.Statement.{statement}
+use Rattle.cycle.proofs.planned.joined_end.Tie as tie
+
+enum-told : tie.Need-enum-told
+enum-told c = search needs
+
+enum-known-second : tie.Need-enum-known-second
+enum-known-second c = search needs
+
+add-if1 : tie.Need-add-if1
+add-if1 c = search needs
+
+returns : tie.Need-returns
+unfolding joinedEnd
+returns c = cc
+
+returns-2 : tie.Need-returns-2
+unfolding joinedEnd
+returns-2 c = rw (c .before .before .second .given .1, eq-eqb _ _ (c .if1 .taken))
+
+returns-3 : tie.Need-returns-3
+unfolding joinedEnd
+returns-3 c = rw (c .before .before .second .given .1, ne-eqb _ _ (c .if1 .left))
+
+pub joined-end-spec : {M : Type 1} → statement M
+joined-end-spec = tie.close (tie.spec enum-told enum-known-second add-if1 returns returns-2 returns-3)

@@ -1,0 +1,27 @@
+-- `late_supply` meets its contract, by whether there is a rate; R of a rate in its limits leaves room for J.
+use native.Mathlib.Omega.{arith}
+use borrow.Author.Needs.{needs}
+use Rattle.cycle.specs.LateCheck.{lateSupply}
+use Rattle.cycle.proofs.PlannedSpec.{minutes-fit}
+use Rattle.cycle.proofs.planned.late_supply.Statement.{statement}
+use Rattle.cycle.proofs.planned.late_supply.Tie as tie
+
+enum-told : tie.Need-enum-told
+enum-told c = search needs
+
+enum-known-rate : tie.Need-enum-known-rate
+enum-known-rate c = search needs
+
+add-t6 : tie.Need-add-t6
+add-t6 c = record { fits = minutes-fit _ (c .before .rate .given .1) (c .before .before .before .pre .0) (c .before .before .before .pre .1) }
+
+returns : tie.Need-returns
+unfolding lateSupply
+returns c = cc
+
+returns-2 : tie.Need-returns-2
+unfolding lateSupply
+returns-2 c = rw (c .before .rate .given .1)
+
+pub late-supply-spec : {M : Type 1} → statement M
+late-supply-spec = tie.close (tie.spec enum-told enum-known-rate add-t6 returns returns-2)
