@@ -14,7 +14,7 @@ use Rattle.spec.proofs.GoingOn.{goes-on, stops}
 use Rattle.pairs.specs.declared.Pair.{Pair}
 use Rattle.pairs.specs.Pairs.{thatFit}
 use Rattle.pairs.proofs.Counts.{fit-cases}
-use Rattle.cycle.specs.Check.{firstRefusal, cycleNumber, checkNumber, checkFileNumber}
+use Rattle.cycle.specs.Check.{firstRefusal, cycleNumber, checkNumber}
 use Rattle.cycle.specs.LateCheck.{lateCycleNumber, lateNumber, lateFileNumber}
 
 module _ (spec : Spec) (ps : List Pair) where
@@ -57,11 +57,6 @@ pub fit-late : (spec : Spec) (lateness : ℕ) (ps : List Pair) → lateNumber sp
 unfolding lateNumber lateCycleNumber firstRefusal
 fit-late spec lateness ps =
     fit-cases 512 ps (λ (qs : List Pair). lateNumber spec lateness qs ≡ lateNumber spec lateness ps) (λ e. refl) (λ e. rw (e, and-false))
-
-pub fit-number : (read : SpecRead) (ps : List Pair) → checkFileNumber read (thatFit 512 ps) ≡ checkFileNumber read ps
-unfolding checkFileNumber
-fit-number (Accepted spec) ps = fit-check spec ps
-fit-number (Refused n) ps = refl
 
 pub fit-late-number : (read : SpecRead) (lateness : ℕ) (ps : List Pair) → lateFileNumber read lateness (thatFit 512 ps) ≡ lateFileNumber read lateness ps
 unfolding lateFileNumber

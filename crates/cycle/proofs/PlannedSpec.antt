@@ -18,12 +18,14 @@ use Rattle.spec.specs.declared.Rate.the-variants.{Absent, Present}
 use Rattle.spec.specs.declared.Range.{Range}
 use Rattle.spec.specs.declared.Range.the-variants.{Absent as NoRange, Present as RangeOf}
 use Rattle.spec.specs.declared.Spec.{Spec}
+use Rattle.spec.specs.declared.SpecRead.{SpecRead}
+use Rattle.spec.specs.declared.SpecRead.the-variants.{Accepted, Refused}
 use Rattle.spec.specs.Limits.{rateLimits, rangeLimits, inRange, IsAccepted, sizeAllowed, gapAllowed}
 use Rattle.spec.proofs.Facts.{leb-iff, facts, range-limits-iff, Second, second-range, gap-allowed-iff, in-none, in-bounds, gap-allowed-pos}
 use Rattle.pairs.specs.declared.Pair.{Pair}
 use Rattle.cycle.specs.Cycles.{pairGap}
-use Rattle.cycle.specs.Check.{gapsAllowed, sizesAllowed, cycleNumber, checkNumber}
-use Rattle.cycle.specs.LateCheck.{lateGapAllowed, lateGapsAllowed, lateSupply, lateDemand, lateCycleNumber, lateNumber}
+use Rattle.cycle.specs.Check.{gapsAllowed, sizesAllowed, cycleNumber, checkNumber, checkFileNumber}
+use Rattle.cycle.specs.LateCheck.{lateGapAllowed, lateGapsAllowed, lateSupply, lateDemand, lateCycleNumber, lateNumber, lateFileNumber}
 use Rattle.cycle.specs.PlannedSpec.{joinedEnd, shortened, plannedSpec, SomeMinutes, Judges}
 use Rattle.cycle.proofs.Starts.{same-test}
 
@@ -222,3 +224,8 @@ pub on-time-same : (spec : Spec) (ps : List Pair) → lateNumber spec 0 ps ≡ c
 unfolding lateNumber lateCycleNumber lateGapsAllowed checkNumber cycleNumber gapsAllowed
 on-time-same spec ps =
     rw (all-same (λ j. lateGapAllowed spec 0 (pairGap ps j)) (λ j. gapAllowed spec (pairGap ps j)) (length ps) (λ j. gap-on-time spec (pairGap ps j)), supply-on-time (spec .supply), demand-on-time (spec .demand))
+
+pub on-time-number : (read : SpecRead) (ps : List Pair) → lateFileNumber read 0 ps ≡ checkFileNumber read ps
+unfolding lateFileNumber checkFileNumber
+on-time-number (Accepted spec) ps = on-time-same spec ps
+on-time-number (Refused n) ps = refl

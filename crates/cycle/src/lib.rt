@@ -2,8 +2,8 @@
 // endless repetition with two ends that only go forward, and counts whole rounds by a product, so its work is linear in the
 // number of pairs however short a round is (`stretches`). No pair is written anywhere: the stretches lie on the one round that is lent.
 // A cycle whose reports may be late (26 after 24) gets the same check, against the specification that its planned minutes must meet
-// (`planned`). What pairs are is the crate `pairs`', their file another's; the C calls over a lent list of pairs, which unpack it and call
-// `check_file` and `check_late_file`, are exported by `maxeltu`.
+// (`planned`). What pairs are is the crate `pairs`', their file another's; the C calls over a lent list of pairs, of which one unpacks it and
+// calls `check_late_file`, are exported by `maxeltu`.
 mod planned;
 mod stretches;
 
@@ -17,7 +17,7 @@ ghost use Prim.Native.Nat.{_/_, _<_, _≤_};
 ghost use lib.ListN.{length};
 ghost use Rattle.spec.specs.File.{readSpec};
 ghost use Rattle.pairs.specs.Pairs.{pairsOf};
-ghost use Rattle.cycle.specs.Check.{supplyKept, demandMet, cycleNumber, checkNumber, checkFileNumber};
+ghost use Rattle.cycle.specs.Check.{supplyKept, demandMet, cycleNumber, checkNumber};
 ghost use Rattle.cycle.specs.LateCheck.{lateNumber, lateFileNumber};
 ghost use Rattle.cycle.specs.PlannedSpec.{SomeMinutes, Judges};
 ghost use Rattle.cycle.specs.Windows.{fieldAllowed, fieldsAllowed, Walkable};
@@ -133,17 +133,7 @@ pub fn check_late(spec: Spec, words: &[u16], lateness: u32) -> u32
     cycle_number(planned::planned_spec(spec, lateness as u16), words)
 }
 
-// Both against a specification's file: only an accepted specification goes on.
-pub fn check_file(spec_bytes: &[u8], words: &[u16]) -> u32
-    ensures { λ r. ⌜ r ≡ checkFileNumber (readSpec (now («spec_bytes» .entry))) (pairsOf (now (words .entry))) ⌝ }
-{
-    let read = spec::read_spec(spec_bytes);
-    let SpecRead::Accepted(accepted) = read else {
-        return spec::read_number(read);
-    };
-    check(accepted, words)
-}
-
+// The same against a specification's file: only an accepted specification goes on. With no minute of lateness it is the check on time.
 pub fn check_late_file(spec_bytes: &[u8], words: &[u16], lateness: u32) -> u32
     ensures { λ r. ⌜ r ≡ lateFileNumber (readSpec (now («spec_bytes» .entry))) lateness (pairsOf (now (words .entry))) ⌝ }
 {

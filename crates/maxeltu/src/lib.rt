@@ -285,18 +285,16 @@ pub extern "C" fn maxeltu_plan_cost(
     answers::bill_answer(cost::plan_cost(p, reports), tenths, cents)
 }
 
-// The number of a lent list of pairs against a specification's file. The list is unpacked once, into the one array that is held, and
-// the flat check called.
+// The number of a lent list of pairs against a specification's file, on time.
 #[no_mangle]
 pub extern "C" fn maxeltu_check_cycle(spec_bytes: &[u8], pairs: &[Pair]) -> u32
     ensures { λ r. ⌜ r ≡ checkFileNumber (readSpec (now («spec_bytes» .entry))) (now (pairs .entry)) ⌝ }
 {
-    let mut words = [0u16; 1024];
-    let used = pairs::unpack(pairs, &mut words);
-    cycle::check_file(spec_bytes, &words[..used])
+    maxeltu_check_late(spec_bytes, pairs, 0)
 }
 
-// The same where each report may arrive up to `lateness` minutes late.
+// The same where each report may arrive up to `lateness` minutes late. The list is unpacked once, into the one array that is held, and the
+// flat check called.
 #[no_mangle]
 pub extern "C" fn maxeltu_check_late(spec_bytes: &[u8], pairs: &[Pair], lateness: u32) -> u32
     ensures { λ r. ⌜ r ≡ lateFileNumber (readSpec (now («spec_bytes» .entry))) lateness (now (pairs .entry)) ⌝ }
