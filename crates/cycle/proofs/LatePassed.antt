@@ -105,8 +105,8 @@ module _ (spec : Spec) (lateness : ℕ) (ps : List Pair) (some : 1 ≤ length ps
       fails = λ e.
           let k = too-full (Present b (r + lateness)) ps e in
           let a = k .0 in (
-            fullDelay (cycleRun ps) lateness later a,
-            (full-delay-right (cycleRun ps) lateness later a, (a + lateness, omega (arith, k .1, full-delay (cycleRun ps) lateness later a r minutes))),
+            fullDelay (cycleRun ps) lateness a,
+            (full-delay-right (cycleRun ps) lateness a, (a + lateness, omega (arith, k .1, full-delay (cycleRun ps) lateness later a r minutes))),
           );
       apart = λ every broken. omega (arith, every (broken .0) (broken .1 .0) (broken .1 .1 .0), broken .1 .1 .1);
     }
@@ -122,8 +122,8 @@ module _ (spec : Spec) (lateness : ℕ) (ps : List Pair) (some : 1 ≤ length ps
       fails = λ e.
           let k = too-thin (Present l (p - lateness)) ps e in
           let a = k .0 in (
-            thinDelay (cycleRun ps) lateness later a p,
-            (thin-delay-right (cycleRun ps) lateness later a p, (a, omega (arith, k .1, thin-delay (cycleRun ps) lateness later a p))),
+            thinDelay (cycleRun ps) lateness a p,
+            (thin-delay-right (cycleRun ps) lateness a p, (a, omega (arith, k .1, thin-delay (cycleRun ps) lateness later a p))),
           );
       apart = λ every broken. omega (arith, every (broken .0) (broken .1 .0) (broken .1 .1 .0), broken .1 .1 .1);
     }

@@ -22,6 +22,8 @@ use Rattle.plan.specs.Plans.{proper, run}
 use Rattle.plan.specs.Reports.{reportOf}
 use Rattle.schedule.proofs.Sums.{block, sum-whole}
 use Rattle.schedule.proofs.StretchSum.{stretch-is-sum}
+use Rattle.schedule.proofs.Timed.{timed-sum, planned-stretch, planned-obeys}
+use Rattle.schedule.proofs.Delays.{delayed-later}
 use Rattle.schedule.proofs.Moments.{reports-least}
 use Rattle.plan.proofs.Runs.{report-0-fullest, front-fullest, row-range, row-total}
 use Rattle.plan.proofs.ThereAndBack.{last-exact, nearest-exact, there-and-back, between-exact, counts-add-up}
@@ -33,6 +35,8 @@ use Rattle.even.proofs.EvenPlans.{even-plan-obeys, even-plan-longest, even-plan
 use Rattle.pairs.specs.declared.Pair.{Pair}
 use Rattle.cycle.specs.Cycles.{cycleRun}
 use Rattle.cycle.proofs.CyclesPassed.{passed-obeys}
+use Rattle.cycle.proofs.PlannedSpec.{on-time-same}
+use Rattle.cycle.proofs.LatePassed.{late-passed, late-gap, late-size, late-full, late-thin, too-late, late-less}
 use Rattle.cycle.proofs.Rounds.{whole-rounds}
 use Rattle.cost.proofs.Rounds.{plan-in-rounds, cycle-in-rounds}
 use Rattle.cost.proofs.Billing.{plan-billed, plan-in-bands, cycle-billed, cycle-in-bands}
@@ -115,6 +119,10 @@ demands = record {
   ranges-apart = number-24;
   two-ranges-turned-away = λ s. (consistency-25 s, λ f k. schedule-25 f s k, test-25 s);
   stretch-sum = stretch-is-sum;
+  timed-sum = timed-sum;
+  delayed-later = delayed-later;
+  own-minutes = planned-stretch;
+  own-rules = planned-obeys;
   whole-rounds = whole-rounds;
   required-supply = required-is-most;
   available-supply = available-is-least;
@@ -146,6 +154,16 @@ demands = record {
   meter-budget = budget-kept;
   meter-holds = holds-few;
   cycle-passed = passed-obeys;
+  late-numbers = λ s lateness c accepted few some most. record {
+    late-passed = late-passed s lateness c accepted few some most;
+    late-gap = late-gap s lateness c accepted few some most;
+    late-size = late-size s lateness c accepted few some most;
+    late-full = late-full s lateness c accepted few some most;
+    late-thin = late-thin s lateness c accepted few some most;
+  };
+  too-late = too-late;
+  on-time = on-time-same;
+  late-less = late-less;
   test-obeys = test-sound;
   even-obeys = even-plan-obeys;
   even-longest = even-plan-longest;

@@ -18,7 +18,8 @@ use Rattle.spec.specs.Limits.{limits, order, specNumber, IsAccepted, gapAllowed
 use Rattle.spec.specs.File.{readSpec}
 use Rattle.schedule.specs.Schedules.{Schedule, sum, InRounds, minute, stretch, inStretch, share}
 use Rattle.schedule.specs.Moments.{IsLast, IsNearest, counted}
-use Rattle.schedule.specs.Rules.{Obeys}
+use Rattle.schedule.specs.Timed.{Timed, timedShare, timedStretch, timedGap, planned, delayed, EveryDelay, SomeDelay}
+use Rattle.schedule.specs.Rules.{SizesAllowed, GapsAllowed, SupplyKept, Obeys, TimedObeys, SizeBroken, GapBroken, TooFull, TooThin}
 use Rattle.plan.specs.declared.Kind.the-variants.{Even}
 use Rattle.plan.specs.declared.Plan.{Plan}
 use Rattle.plan.specs.declared.Reported.the-variants.{At}
@@ -41,6 +42,7 @@ use Rattle.even.specs.Even.{evenPlan, evenly}
 use Rattle.pairs.specs.declared.Pair.{Pair}
 use Rattle.cycle.specs.Cycles.{pairGap, cycleRun, round, roundRecords}
 use Rattle.cycle.specs.Check.{checkNumber}
+use Rattle.cycle.specs.LateCheck.{lateNumber}
 use Rattle.cost.specs.declared.Bill.the-variants.{Due}
 use Rattle.cost.specs.Prices.{charge, FirstBand, tenths, cents}
 use Rattle.cost.specs.Bills.{planBill, cycleBill}
@@ -49,6 +51,27 @@ use Rattle.meter.specs.declared.Meter.{Meter}
 use Rattle.meter.specs.Plain.{Report, recordsAt, endingWith, plainAnswers, acceptedOnto}
 use Rattle.meter.specs.Ring.{fresh, stepped, meterAnswers, meterAfter}
 use Rattle.maxeltu.specs.Verdict.{verdictOf}
+
+-- Reports that arrive late (document 02, Req 09): what each number of the check with lateness J says of a cycle. Each report is delayed by a
+-- number of minutes of its own, from 0 to J, report 0's too, and the delayed minutes stand for the planned ones.
+pub record LateNumbers (s : Spec) (lateness : ℕ) (c : List Pair) : Type 0 where
+  -- 0: the delayed run obeys the four rules at every starting minute from 0 on, however the reports are delayed
+  pub late-passed : (lateNumber s lateness c ≡ 0) ↔ EveryDelay lateness (cycleRun c) (TimedObeys s)
+  -- 13: some delays make a gap that is not allowed
+  pub late-gap : (lateNumber s lateness c ≡ 13) ↔ SomeDelay lateness (cycleRun c) (λ t. GapBroken s (timedGap t))
+  -- 14, where no delays do: some size is not allowed
+  pub late-size : (lateNumber s lateness c ≡ 14) ↔ (EveryDelay lateness (cycleRun c) (λ t. GapsAllowed s (timedGap t)) × SizeBroken s (cycleRun c .size))
+  -- 15, where all gaps and sizes are allowed: with some delays some R minutes hold more than B
+  pub late-full : (lateNumber s lateness c ≡ 15)
+      ↔ (EveryDelay lateness (cycleRun c) (λ t. GapsAllowed s (timedGap t))
+      × SizesAllowed s (cycleRun c .size)
+      × SomeDelay lateness (cycleRun c) (λ t. TooFull (s .supply) (timedStretch t)))
+  -- 16, where moreover no delays make any R minutes too full: with some delays some P minutes hold fewer than L
+  pub late-thin : (lateNumber s lateness c ≡ 16)
+      ↔ (EveryDelay lateness (cycleRun c) (λ t. GapsAllowed s (timedGap t))
+      × SizesAllowed s (cycleRun c .size)
+      × EveryDelay lateness (cycleRun c) (λ t. SupplyKept (s .supply) (timedStretch t))
+      × SomeDelay lateness (cycleRun c) (λ t. TooThin (s .demand) (timedStretch t)))
 
 pub record Demands : Type 0 where
   -- 1. Any bytes handed in, of any length, are read to their contents or to the numbered refusal. A refusal writes to no lent place.
@@ -90,6 +113,13 @@ pub record Demands : Type 0 where
       × ((testOf s ≡ NotTested 25) ↔ HasTwoRanges s)
   -- a stretch holds, summed, the sizes of the reports at its minutes, however many reports are looked at: every stretch below is such a sum
   pub stretch-sum : (s : Schedule) → ((i : ℕ) → 1 ≤ s .gap i) → (a w more : ℕ) → stretch s a w ≡ sum (share s a w) (a + w + more)
+  -- so does a stretch of reports at given minutes (document 02, Req 09), where report i is at minute i or later; a schedule with no gap 0, however
+  -- its reports are delayed, is such a one
+  pub timed-sum : (t : Timed) → ((i : ℕ) → i ≤ t .minute i) → (a w more : ℕ) → timedStretch t a w ≡ sum (timedShare t a w) (a + w + more)
+  pub delayed-later : (s : Schedule) → ((i : ℕ) → 1 ≤ s .gap i) → (delay : ℕ → ℕ) (i : ℕ) → i ≤ delayed s delay .minute i
+  -- for a schedule's own minutes it is the stretch above, and the four rules are the schedule's
+  pub own-minutes : (s : Schedule) (a w : ℕ) → timedStretch (planned s) a w ≡ stretch s a w
+  pub own-rules : (spec : Spec) (s : Schedule) → TimedObeys spec (planned s) ↔ Obeys spec s
   -- Checking a cycle without doubling it (document 02, Req 04). Of every cycle of 1 to 512 pairs, or more, with no gap 0, in or out of any range,
   -- any stretch holds its whole rounds times the records of a round, and what the minutes left over, fewer than a round's, hold.
   pub whole-rounds : (c : List Pair) → 1 ≤ length c → ((j : ℕ) → j < length c → 1 ≤ pairGap c j) → (a w : ℕ)
@@ -175,6 +205,13 @@ pub record Demands : Type 0 where
 
   -- a cycle of 1 to 512 pairs is passed exactly when its endless run obeys the four rules at every starting minute from 0 on
   pub cycle-passed : (s : Spec) (c : List Pair) → IsAccepted s → 1 ≤ length c → length c ≤ 512 → (checkNumber s c ≡ 0) ↔ Obeys s (cycleRun c)
+  -- for a J up to 1,440 each number of the check with lateness has its meaning over every choice of delays
+  pub late-numbers : (s : Spec) (lateness : ℕ) (c : List Pair) → IsAccepted s → lateness ≤ 1_440 → 1 ≤ length c → length c ≤ 512 → LateNumbers s lateness c
+  -- 26 is given exactly to an accepted specification with a J above that
+  pub too-late : (s : Spec) (lateness : ℕ) (c : List Pair) → (lateNumber s lateness c ≡ 26) ↔ (IsAccepted s × (1_440 < lateness))
+  -- with J = 0 it is the check as it was, and what is passed for some J is passed for every smaller one
+  pub on-time : (s : Spec) (c : List Pair) → lateNumber s 0 c ≡ checkNumber s c
+  pub late-less : (s : Spec) (less more : ℕ) (c : List Pair) → less ≤ more → lateNumber s more c ≡ 0 → lateNumber s less c ≡ 0
   -- the endless run of every plan that the test passed obeys them
   pub test-obeys : (s : Spec) (p : Plan) (v : ℕ) → testOf s ≡ Passed p v → (proper p ≡ true) × Obeys s (run p)
   -- and so does that of every even plan

@@ -1,6 +1,6 @@
 -- Document 01, "Samples": those marked ★ as one table, and one proof that the definitions give every value that it prints. The sizes of
 -- B with 15 are those of document 02, Req 02, its offers those of Req 03, and what four reports of it cost that of Req 08; what F gets is
--- that of Req 07; the way back from minutes, of Req 05, the other bills, and F with B = 15 are ours.
+-- that of Req 07; the way back from minutes, of Req 05, the other bills, late reports, of Req 09, and F with B = 15 are ours.
 use Prim.Native.Nat.{ℕ, _+_, _*_}
 use mathlib.Core.Path.{_≡_, refl}
 use mathlib.Core.List.{List, [], _∷_, _++_}
@@ -37,7 +37,8 @@ use Rattle.even.specs.Even.{evenPlan, planOr10, evenPlanAt, evenGap, largest, f
 use Rattle.answers.specs.Answers.{Answer, consistencyAnswer, scheduledAnswer, testedAnswer, evenAnswer, numberAnswer, contentsAnswer, billAnswer}
 use Rattle.pairs.specs.declared.Pair.{Pair}
 use Rattle.cycle.specs.Cycles.{pairGap, pairSize, cycleRun, round}
-use Rattle.cycle.specs.Check.{checkNumber, cycleNumber, gapsAllowed, sizesAllowed, supplyKept, demandMet}
+use Rattle.cycle.specs.Check.{checkNumber, cycleNumber, firstRefusal, gapsAllowed, sizesAllowed, supplyKept, demandMet}
+use Rattle.cycle.specs.LateCheck.{lateNumber, lateCycleNumber, lateGapAllowed, lateGapsAllowed, lateSupply, lateDemand}
 use Rattle.cost.specs.declared.Bill.{Bill}
 use Rattle.cost.specs.Prices.{priceIn, charge, tenths}
 use Rattle.cost.specs.Bills.{planBill, cycleBill}
@@ -72,6 +73,7 @@ pub data Claim : Type 0 where
   minimumDemandCosts : (k reports tenths cents : ℕ) → Claim
   evenCosts : (reports tenths cents : ℕ) → Claim
   cycleGets : (cycle : List Pair) (number : ℕ) → Claim
+  lateGets : (cycle : List Pair) (lateness number : ℕ) → Claim
   cycleCosts : (cycle : List Pair) (reports tenths cents : ℕ) → Claim
   cycleNotBilled : (cycle : List Pair) (reports number : ℕ) → Claim
   offersGet : (offers : List Offer) → Claim
@@ -179,6 +181,7 @@ claimHolds s (evenBetween a b n d) = ofEven (evenPlan s) (λ p. betweenIs p a b 
 claimHolds s (minimumDemandCosts k n t c) = ofSchedule (scheduleFor MinimumDemand s k) (λ p. billIs (planBill p n) t c)
 claimHolds s (evenCosts n t c) = ofEven (evenPlan s) (λ p. billIs (planBill p n) t c)
 claimHolds s (cycleGets c n) = eqb (checkNumber s c) n
+claimHolds s (lateGets c lateness n) = eqb (lateNumber s lateness c) n
 claimHolds s (cycleCosts ps n t c) = billIs (cycleBill s ps n) t c
 claimHolds s (cycleNotBilled ps n number) = answerIs (billAnswer (cycleBill s ps n)) number []
 claimHolds s (offersGet offers) = answersAre (plainAnswers s [] (offered offers)) offers
@@ -286,9 +289,33 @@ samples =
     ∷ testRefuses 25
     ∷ evenGives 90 1 8
     ∷ cycleGets (cycle 15 (5 ∷ 5 ∷ []) ++ cycle 5 (4 ∷ []) ++ cycle 90 (8 ∷ []) ++ cycle 60 (8 ∷ [])) 0
-    ∷ cycleGets (cycle 15 (8 ∷ []) ++ cycle 30 (4 ∷ []) ++ cycle 90 (8 ∷ [])) 13 ∷ [])
-    ∷ sampleWith (RangeOf 16 90) 1 10 5 15 22 60 8 90 (cycleGets (cycle 15 (8 ∷ []) ++ cycle 30 (4 ∷ []) ++ cycle 90 (8 ∷ [])) 0 ∷ [])
-    ∷ sampleWith (RangeOf 15 90) 1 10 5 15 22 60 8 90 (consistencyGets 24 ∷ testRefuses 24 ∷ evenRefuses 24 ∷ [])
+    ∷ cycleGets (cycle 15 (8 ∷ []) ++ cycle 30 (4 ∷ []) ++ cycle 90 (8 ∷ [])) 13
+    -- late reports: 16 is between the ranges; of the gaps 15 to 65 both ends are allowed
+    ∷ lateGets (cycle 15 (4 ∷ [])) 0 0
+    ∷ lateGets (cycle 15 (4 ∷ [])) 1 13
+    ∷ lateGets (cycle 40 (4 ∷ [])) 25 13 ∷ [])
+    ∷ sampleWith (RangeOf 16 90) 1 10 5 15 22 60 8 90 (
+    cycleGets (cycle 15 (8 ∷ []) ++ cycle 30 (4 ∷ []) ++ cycle 90 (8 ∷ [])) 0
+    ∷ lateGets (cycle 15 (4 ∷ [])) 10 0
+    ∷ lateGets (cycle 15 (4 ∷ [])) 11 13
+    ∷ lateGets (cycle 40 (4 ∷ [])) 10 0
+    ∷ lateGets (cycle 40 (4 ∷ [])) 11 16 ∷ [])
+    ∷ sampleWith (RangeOf 15 90) 1 10 5 15 22 60 8 90 (consistencyGets 24 ∷ testRefuses 24 ∷ evenRefuses 24 ∷ lateGets [] 1441 24 ∷ [])
+    -- reports that arrive late (document 02, Req 09): samples/late.spec with its cycles
+    ∷ sample 1 2 2 6 4 6 2 8 (
+    lateGets (cycle 4 (2 ∷ [])) 2 0
+    ∷ lateGets (cycle 4 (2 ∷ [])) 3 13
+    ∷ lateGets (cycle 4 (2 ∷ [])) 1440 13
+    ∷ lateGets (cycle 4 (2 ∷ [])) 1441 26
+    ∷ lateGets (cycle 4 (3 ∷ [])) 2 14
+    ∷ lateGets (cycle 3 (2 ∷ [])) 0 0
+    ∷ lateGets (cycle 3 (2 ∷ [])) 1 15
+    ∷ lateGets (cycle 4 (1 ∷ [])) 0 0
+    ∷ lateGets (cycle 4 (1 ∷ [])) 1 16
+    ∷ lateGets [] 1440 12
+    ∷ lateGets [] 1441 26 ∷ [])
+    -- P minutes of no more than J can be empty
+    ∷ sample 1 9 1 9 9 1 1 3 (lateGets (cycle 4 (9 ∷ [])) 3 16 ∷ [])
     ∷ []
 
 pub samplesHold : List Sample → Bool
@@ -297,5 +324,5 @@ samplesHold (x ∷ xs) = claimsHold (x .spec) (x .claims) && samplesHold xs
 
 -- Every value of the table is what the definitions compute.
 pub samples-hold : samplesHold samples ≡ true
-unfolding samplesHold samples sample sampleWith cycle offer offered leftIs answersAre claimsHold claimHolds same answerIs reportIs reportsAre wellFormed even minuteIs betweenIs billIs ofSchedule ofEven sameRate sameRange readTo specNumber firstNumber limits order rateLimits rangeLimits rangeOrder startsAbove inRange sizeAllowed gapAllowed topOf readSpec ifNone secondNumber oneRangeNumber started sum minute heldFrom stretch proper run kindRun wellSize wellGap evenFirst evenSize reportOf numberOf betweenOf greatest lastReport firstLeast nearestReport reportsFrom recordsFrom consistencyOf conditionsOf boundsFitRates sizeFitsBudget gapFitsDemand demandFitsDuration fewestReportsFitBudget enoughReportsForDemand supplyCoversDemand whereRate whereRange ceil scheduleFor bothRates ratesFrom scheduled exists planFor supplyFigure required available least testOf testConsistent testTaken figurePasses taken firstCount lastCount scheduleWith takenFrom betterOf isBetter familyOf evenPlan planOr10 evenPlanAt evenGap largest fits supplyFits demandFits totalOf countAt pairGap pairSize cycleRun round checkNumber cycleNumber gapsAllowed sizesAllowed supplyKept demandMet all priceIn charge tenths planBill cycleBill countedAt tooEarly overBudget noPlace offerNumber after later budgetLeft offerAnswer plainAnswers
+unfolding samplesHold samples sample sampleWith cycle offer offered leftIs answersAre claimsHold claimHolds same answerIs reportIs reportsAre wellFormed even minuteIs betweenIs billIs ofSchedule ofEven sameRate sameRange readTo specNumber firstNumber limits order rateLimits rangeLimits rangeOrder startsAbove inRange sizeAllowed gapAllowed topOf readSpec ifNone secondNumber oneRangeNumber started sum minute heldFrom stretch proper run kindRun wellSize wellGap evenFirst evenSize reportOf numberOf betweenOf greatest lastReport firstLeast nearestReport reportsFrom recordsFrom consistencyOf conditionsOf boundsFitRates sizeFitsBudget gapFitsDemand demandFitsDuration fewestReportsFitBudget enoughReportsForDemand supplyCoversDemand whereRate whereRange ceil scheduleFor bothRates ratesFrom scheduled exists planFor supplyFigure required available least testOf testConsistent testTaken figurePasses taken firstCount lastCount scheduleWith takenFrom betterOf isBetter familyOf evenPlan planOr10 evenPlanAt evenGap largest fits supplyFits demandFits totalOf countAt pairGap pairSize cycleRun round checkNumber cycleNumber firstRefusal gapsAllowed sizesAllowed supplyKept demandMet lateNumber lateCycleNumber lateGapAllowed lateGapsAllowed lateSupply lateDemand all priceIn charge tenths planBill cycleBill countedAt tooEarly overBudget noPlace offerNumber after later budgetLeft offerAnswer plainAnswers
 samples-hold = refl

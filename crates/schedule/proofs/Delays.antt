@@ -13,6 +13,10 @@ use Rattle.schedule.specs.Timed.{timedStretch, timedGap, planned, delaye
 use Rattle.schedule.proofs.Before.{minute-least, minute-more}
 use Rattle.schedule.proofs.Timed.{Within, within, planned-stretch}
 
+-- a delayed report is no earlier than its own minute
+pub delayed-later : (s : Schedule) → ((i : ℕ) → 1 ≤ s .gap i) → (delay : ℕ → ℕ) (i : ℕ) → i ≤ delayed s delay .minute i
+delayed-later s later delay i = omega (arith, minute-least s later i)
+
 module _ (s : Schedule) (lateness : ℕ) where
   -- the place of report i's gap among those from g - J to g + J
   pub delayed-gap : (delay : ℕ → ℕ) → UpTo lateness delay → (i : ℕ)
@@ -23,22 +27,44 @@ module _ (s : Schedule) (lateness : ℕ) where
   pub gapDelay : ℕ → ℕ → ℕ → ℕ
   gapDelay j x i = cond (eqb i j) (lateness - x) (x - lateness)
 
+  -- onto minute a + J, as far as J minutes lead
+  pub fullDelay : ℕ → ℕ → ℕ
+  fullDelay a i = min lateness (a + lateness - minute s i)
+
+  -- J late from the end of the P - J minutes on
+  pub thinDelay : ℕ → ℕ → ℕ → ℕ
+  thinDelay a p i = cond (leb (a + (p - lateness)) (minute s i)) lateness 0
+
+  either-right : (b : Bool) (x y : ℕ) → x ≤ lateness → y ≤ lateness → cond b x y ≤ lateness
+  either-right true x y h k = h
+  either-right false x y h k = k
+
   pub gap-delay-right : (j x : ℕ) → x ≤ 2 * lateness → UpTo lateness (gapDelay j x)
   unfolding gapDelay
-  gap-delay-right j x h i = pick (eqb i j)
-    where
-      pick : (b : Bool) → cond b (lateness - x) (x - lateness) ≤ lateness
-      pick true = omega arith
-      pick false = omega arith
+  gap-delay-right j x h i = either-right (eqb i j) (lateness - x) (x - lateness) (omega arith) (omega arith)
+
+  pub full-delay-right : (a : ℕ) → UpTo lateness (fullDelay a)
+  unfolding fullDelay
+  full-delay-right a i = omega arith
+
+  pub thin-delay-right : (a p : ℕ) → UpTo lateness (thinDelay a p)
+  unfolding thinDelay
+  thin-delay-right a p i = either-right (leb (a + (p - lateness)) (minute s i)) lateness 0 (omega arith) (omega arith)
 
   pub gap-delay-gap : (j x : ℕ) → timedGap (delayed s (gapDelay j x)) j ≡ s .gap j + x - lateness
   unfolding gapDelay
   gap-delay-gap j x = rw (minute-more s j, eq-eqb j j refl, ne-eqb (j + 1) j (λ e. omega arith)) (omega arith)
 
-  module _ (later : (i : ℕ) → 1 ≤ s .gap i) where
-    pub delayed-later : (delay : ℕ → ℕ) (i : ℕ) → i ≤ delayed s delay .minute i
-    delayed-later delay i = omega (arith, minute-least s later i)
+  thin-within : (a p i : ℕ) → Within (delayed s (thinDelay a p)) a p i → Within (planned s) a (p - lateness) i
+  unfolding thinDelay
+  thin-within a p i = pick (leb (a + (p - lateness)) (minute s i)) refl
+    where
+      pick : (b : Bool) → leb (a + (p - lateness)) (minute s i) ≡ b
+          → (a ≤ minute s i + cond b lateness 0) × (minute s i + cond b lateness 0 < a + p) → Within (planned s) a (p - lateness) i
+      pick true e q = absurd (omega (arith, leb-true (a + (p - lateness)) (minute s i) e))
+      pick false e q = (omega arith, leb-false _ _ e)
 
+  module _ (later : (i : ℕ) → 1 ≤ s .gap i) where
     pub delayed-most : (delay : ℕ → ℕ) → UpTo lateness delay → (a r : ℕ)
         → timedStretch (delayed s delay) a r ≤ stretch s (a - lateness) (r + lateness)
     delayed-most delay h a r =
@@ -46,48 +72,19 @@ module _ (s : Schedule) (lateness : ℕ) where
         (within (delayed s delay) (planned s) (λ i. refl) (minute-least s later) a r (a - lateness) (r + lateness)
         (λ i q. (omega (arith, h i), omega (arith, h i))))
 
-    pub delayed-least : (delay : ℕ → ℕ) → UpTo lateness delay → (a p : ℕ)
-        → stretch s a (p - lateness) ≤ timedStretch (delayed s delay) a p
-    delayed-least delay h a p =
-        rw (← planned-stretch s a (p - lateness))
-        (within (planned s) (delayed s delay) (λ i. refl) (delayed-later delay) a (p - lateness) a p
-        (λ i q. (omega (arith, h i), omega (arith, h i))))
-
-    -- onto minute a + J, as far as J minutes lead
-    pub fullDelay : ℕ → ℕ → ℕ
-    fullDelay a i = min lateness (a + lateness - minute s i)
-
-    pub full-delay-right : (a : ℕ) → UpTo lateness (fullDelay a)
-    unfolding fullDelay
-    full-delay-right a i = omega arith
-
     pub full-delay : (a r : ℕ) → 1 ≤ r → stretch s a (r + lateness) ≤ timedStretch (delayed s (fullDelay a)) (a + lateness) r
     unfolding fullDelay
     full-delay a r some =
         rw (← planned-stretch s a (r + lateness))
-        (within (planned s) (delayed s (fullDelay a)) (λ i. refl) (delayed-later (fullDelay a)) a (r + lateness) (a + lateness) r
+        (within (planned s) (delayed s (fullDelay a)) (λ i. refl) (delayed-later s later (fullDelay a)) a (r + lateness) (a + lateness) r
         (λ i q. (omega arith, omega arith)))
 
-    -- J late from the end of the P - J minutes on
-    pub thinDelay : ℕ → ℕ → ℕ → ℕ
-    thinDelay a p i = cond (leb (a + (p - lateness)) (minute s i)) lateness 0
-
-    pub thin-delay-right : (a p : ℕ) → UpTo lateness (thinDelay a p)
-    unfolding thinDelay
-    thin-delay-right a p i = pick (leb (a + (p - lateness)) (minute s i))
-      where
-        pick : (b : Bool) → cond b lateness 0 ≤ lateness
-        pick true = omega arith
-        pick false = omega arith
-
-    thin-within : (a p i : ℕ) → Within (delayed s (thinDelay a p)) a p i → Within (planned s) a (p - lateness) i
-    unfolding thinDelay
-    thin-within a p i = pick (leb (a + (p - lateness)) (minute s i)) refl
-      where
-        pick : (b : Bool) → leb (a + (p - lateness)) (minute s i) ≡ b
-            → (a ≤ minute s i + cond b lateness 0) × (minute s i + cond b lateness 0 < a + p) → Within (planned s) a (p - lateness) i
-        pick true e q = absurd (omega (arith, leb-true (a + (p - lateness)) (minute s i) e))
-        pick false e q = (omega arith, leb-false _ _ e)
+    pub delayed-least : (delay : ℕ → ℕ) → UpTo lateness delay → (a p : ℕ)
+        → stretch s a (p - lateness) ≤ timedStretch (delayed s delay) a p
+    delayed-least delay h a p =
+        rw (← planned-stretch s a (p - lateness))
+        (within (planned s) (delayed s delay) (λ i. refl) (delayed-later s later delay) a (p - lateness) a p
+        (λ i q. (omega (arith, h i), omega (arith, h i))))
 
     pub thin-delay : (a p : ℕ) → timedStretch (delayed s (thinDelay a p)) a p ≤ stretch s a (p - lateness)
     thin-delay a p =
