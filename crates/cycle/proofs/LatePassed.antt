@@ -1,37 +1,36 @@
 -- The number of the check with lateness against every choice of delays. Each of its tests decides between two things: where it passes, its
 -- rule holds for every choice, and where it fails, some choice breaks it. The number says which tests passed, so its meaning follows test
 -- by test.
-use Prim.Native.Nat.{ℕ, _+_, _-_, _*_, _≤_, _<_}
+use Prim.Native.Nat.{ℕ, _≤_, _<_}
 use native.Mathlib.Omega.{arith}
-use native.Mathlib.Nat.{le-trans}
 use mathlib.Core.Path.{_≡_, refl, sym, _∙_}
 use mathlib.Core.Logic.{_↔_, ⊎-elim}
 use mathlib.Core.List.{List}
 use mathlib.Core.Bool.{Bool, true, false}
 use lib.ListN.{length}
-use Rattle.numbers.proofs.All.{all-right, some-fails}
-use Rattle.numbers.proofs.Cases.{lt-cases}
+use Rattle.numbers.proofs.All.{some-fails}
 use Rattle.spec.specs.declared.Rate.{Rate}
 use Rattle.spec.specs.declared.Rate.the-variants.{Absent, Present}
 use Rattle.spec.specs.declared.Spec.{Spec}
-use Rattle.spec.specs.Limits.{specNumber, IsAccepted, sizeAllowed, gapAllowed}
-use Rattle.spec.proofs.Facts.{facts, gap-allowed-pos}
-use Rattle.spec.proofs.GoingOn.{went-on, number-few}
+use Rattle.spec.specs.Limits.{IsAccepted, rateLimits, sizeAllowed}
+use Rattle.spec.proofs.Facts.{facts}
+use Rattle.spec.proofs.GoingOn.{none-or}
+use Rattle.schedule.specs.Timed.{timedStretch, timedGap}
+use Rattle.schedule.specs.Rules.{SizesAllowed, GapsAllowed, SupplyKept, DemandMet, TimedObeys, SizeBroken, GapBroken, TooFull, TooThin}
+use Rattle.lateness.specs.Delays.{EveryDelay, SomeDelay}
+use Rattle.lateness.specs.Lateness.{lateGapAllowed, lateSupply, lateDemand, latenessNumber}
+use Rattle.lateness.proofs.Begins.{begins-0, begins-26, begins-iff, begins-26-iff}
+use Rattle.lateness.proofs.EverySchedule.{on-time, gaps-hold, gap-breaks, later-gaps, supply-holds, supply-breaks, demand-holds, demand-breaks}
 use Rattle.pairs.specs.declared.Pair.{Pair}
 use Rattle.pairs.specs.Pairs.{countIn}
 use Rattle.pairs.proofs.Counts.{countIn-true}
-use Rattle.schedule.specs.Timed.{timedStretch, timedGap, UpTo, EveryDelay, SomeDelay}
-use Rattle.schedule.specs.Rules.{SizesAllowed, GapsAllowed, SupplyKept, DemandMet, TimedObeys, SizeBroken, GapBroken, TooFull, TooThin}
-use Rattle.schedule.proofs.Delays.{delayed-gap, gapDelay, gap-delay-right, gap-delay-gap, delayed-most, delayed-least, fullDelay, full-delay-right, full-delay, thinDelay, thin-delay-right, thin-delay}
 use Rattle.cycle.specs.Cycles.{pairGap, pairSize, cycleRun}
 use Rattle.cycle.specs.Check.{sizesAllowed, supplyKept, demandMet}
-use Rattle.cycle.specs.LateCheck.{lateGapAllowed, lateGapsAllowed, lateSupply, lateDemand, lateCycleNumber, lateNumber}
-use Rattle.cycle.specs.PlannedSpec.{SomeMinutes}
+use Rattle.cycle.specs.LateCheck.{lateGapsAllowed, lateCycleNumber, lateNumber}
 use Rattle.cycle.proofs.Runs.{pair-gap, pair-size, each-gap, sizes-right, supply-right, demand-right}
 use Rattle.cycle.proofs.Steps.{Said, said, count-right, gets-13, gets-14, gets-15, gets-16, gets-0, first-few}
 use Rattle.cycle.proofs.CyclesPassed.{too-full, too-thin}
-use Rattle.cycle.proofs.Numbers.{gets-late, gets-26}
-use Rattle.cycle.proofs.PlannedSpec.{some-minutes}
+use Rattle.cycle.proofs.Numbers.{late-goes-on, late-stops}
 
 -- a test that passes exactly where one thing holds, and fails exactly where another breaks it
 record Decides (test : Bool) (Holds Breaks : Type 0) : Type 0 where
@@ -51,29 +50,25 @@ module _ {Holds Breaks : Type 0} where
 not-both : (b : Bool) → b ≡ true → b ≡ false → ⊥
 not-both b p q = absurd (let z : _≡_ {A = ℕ} 0 1 = cc in omega arith)
 
--- no delay at all is a choice for every J
-on-time : (lateness : ℕ) → UpTo lateness (λ i. 0)
-on-time lateness i = omega arith
+-- a rate is not kept where it is broken
+not-kept : (rate : Rate) (held : ℕ → ℕ → ℕ) → SupplyKept rate held → TooFull rate held → ⊥
+not-kept Absent held kept full = full
+not-kept (Present b r) held kept full = omega (arith, kept (full .0), full .1)
+
+not-met : (rate : Rate) (held : ℕ → ℕ → ℕ) → DemandMet rate held → TooThin rate held → ⊥
+not-met Absent held met thin = thin
+not-met (Present l p) held met thin = omega (arith, met (thin .0), thin .1)
 
 module _ (spec : Spec) (lateness : ℕ) (ps : List Pair) (some : 1 ≤ length ps) where
-  -- every gap that delays make is one of those from J less to J more than the planned one, and each of those some delays make
   gaps-decided : Decides (lateGapsAllowed spec lateness ps)
       (EveryDelay lateness (cycleRun ps) (λ t. GapsAllowed spec (timedGap t)))
       (SomeDelay lateness (cycleRun ps) (λ t. GapBroken spec (timedGap t)))
-  unfolding lateGapsAllowed lateGapAllowed
+  unfolding lateGapsAllowed
   gaps-decided = record {
-    passes = λ e delay h i.
-        let near = all-right (λ x. gapAllowed spec (cycleRun ps .gap i + x - lateness)) (2 * lateness + 1) .0 (each-gap ps some (lateGapAllowed spec lateness) .0 e i) in
-        rw (delayed-gap (cycleRun ps) lateness delay h i) (near (lateness + delay (i + 1) - delay i) (omega (arith, h (i + 1))));
+    passes = λ e. gaps-hold (cycleRun ps) lateness spec (each-gap ps some (lateGapAllowed spec lateness) .0 e);
     fails = λ e.
         let k = some-fails (λ j. lateGapAllowed spec lateness (pairGap ps j)) (length ps) e in
-        let j = k .0 in
-        let n = some-fails (λ x. gapAllowed spec (pairGap ps j + x - lateness)) (2 * lateness + 1) (k .1 .1) in
-        let x = n .0 in
-        let few : x < 2 * lateness + 1 = n .1 .0 in (
-          gapDelay (cycleRun ps) lateness j x,
-          (gap-delay-right (cycleRun ps) lateness j x (omega arith), (j, rw (gap-delay-gap (cycleRun ps) lateness j x, pair-gap ps j (k .1 .0)) (n .1 .1))),
-        );
+        gap-breaks (cycleRun ps) lateness spec (k .0) (rw (pair-gap ps (k .0) (k .1 .0)) (k .1 .1));
     apart = λ every broken. not-both _ (every (broken .0) (broken .1 .0) (broken .1 .1 .0)) (broken .1 .1 .1);
   }
 
@@ -87,52 +82,30 @@ module _ (spec : Spec) (lateness : ℕ) (ps : List Pair) (some : 1 ≤ length ps
     apart = λ every broken. not-both _ (every (broken .0)) (broken .1);
   }
 
-  -- an allowed gap is no 0, and on time every gap is the planned one
-  later-gaps : IsAccepted spec → lateGapsAllowed spec lateness ps ≡ true → (i : ℕ) → 1 ≤ cycleRun ps .gap i
-  later-gaps accepted e i =
-      let h = gap-allowed-pos spec _ accepted (gaps-decided .passes e (λ i. 0) (on-time lateness) i) in
-      omega (arith, delayed-gap (cycleRun ps) lateness (λ i. 0) (on-time lateness) i)
-
   module _ (later : (i : ℕ) → 1 ≤ cycleRun ps .gap i) where
-    supply-decided : (rate : Rate) → SomeMinutes rate → Decides (supplyKept (lateSupply lateness rate) ps)
+    supply-decided : (rate : Rate) → rateLimits rate ≡ true → Decides (supplyKept (lateSupply lateness rate) ps)
         (EveryDelay lateness (cycleRun ps) (λ t. SupplyKept rate (timedStretch t)))
         (SomeDelay lateness (cycleRun ps) (λ t. TooFull rate (timedStretch t)))
-    unfolding lateSupply
-    supply-decided Absent minutes = record { passes = λ e delay h. tt; fails = λ e. absurd (too-full Absent ps e); apart = λ every broken. broken .1 .1 }
-    supply-decided (Present b r) minutes = record {
-      passes = λ e delay h a.
-          le-trans (delayed-most (cycleRun ps) lateness later delay h a r) (supply-right ps some later (Present b (r + lateness)) .0 e (a - lateness));
-      fails = λ e.
-          let k = too-full (Present b (r + lateness)) ps e in
-          let a = k .0 in (
-            fullDelay (cycleRun ps) lateness a,
-            (full-delay-right (cycleRun ps) lateness a, (a + lateness, omega (arith, k .1, full-delay (cycleRun ps) lateness later a r minutes))),
-          );
-      apart = λ every broken. omega (arith, every (broken .0) (broken .1 .0) (broken .1 .1 .0), broken .1 .1 .1);
+    supply-decided rate limits = record {
+      passes = λ e. supply-holds (cycleRun ps) lateness later rate (supply-right ps some later (lateSupply lateness rate) .0 e);
+      fails = λ e. supply-breaks (cycleRun ps) lateness later rate limits (too-full (lateSupply lateness rate) ps e);
+      apart = λ every broken. not-kept rate _ (every (broken .0) (broken .1 .0)) (broken .1 .1);
     }
 
     demand-decided : (rate : Rate) → Decides (demandMet (lateDemand lateness rate) ps)
         (EveryDelay lateness (cycleRun ps) (λ t. DemandMet rate (timedStretch t)))
         (SomeDelay lateness (cycleRun ps) (λ t. TooThin rate (timedStretch t)))
-    unfolding lateDemand
-    demand-decided Absent = record { passes = λ e delay h. tt; fails = λ e. absurd (too-thin Absent ps e); apart = λ every broken. broken .1 .1 }
-    demand-decided (Present l p) = record {
-      passes = λ e delay h a.
-          le-trans (demand-right ps some later (Present l (p - lateness)) .0 e a) (delayed-least (cycleRun ps) lateness later delay h a p);
-      fails = λ e.
-          let k = too-thin (Present l (p - lateness)) ps e in
-          let a = k .0 in (
-            thinDelay (cycleRun ps) lateness a p,
-            (thin-delay-right (cycleRun ps) lateness a p, (a, omega (arith, k .1, thin-delay (cycleRun ps) lateness later a p))),
-          );
-      apart = λ every broken. omega (arith, every (broken .0) (broken .1 .0) (broken .1 .1 .0), broken .1 .1 .1);
+    demand-decided rate = record {
+      passes = λ e. demand-holds (cycleRun ps) lateness later rate (demand-right ps some later (lateDemand lateness rate) .0 e);
+      fails = λ e. demand-breaks (cycleRun ps) lateness later rate (too-thin (lateDemand lateness rate) ps e);
+      apart = λ every broken. not-met rate _ (every (broken .0) (broken .1 .0)) (broken .1 .1);
     }
 
 -- What each number says of a cycle of 1 to 512 pairs, for a lateness of at most 1,440 minutes and an accepted specification.
 module _ (spec : Spec) (lateness : ℕ) (ps : List Pair) (accepted : IsAccepted spec) (few : lateness ≤ 1440) (some : 1 ≤ length ps) (most : length ps ≤ 512) where
   -- by the tests, the count's passed
   number-by : (n : ℕ) → n ≡ lateCycleNumber spec lateness ps → lateNumber spec lateness ps ≡ n
-  number-by n e = gets-late spec ps lateness accepted few ∙ sym e
+  number-by n e = late-goes-on spec ps lateness (begins-0 spec lateness accepted few) ∙ sym e
 
   count : countIn (length ps) ≡ true
   count = count-right (length ps) some most
@@ -140,7 +113,7 @@ module _ (spec : Spec) (lateness : ℕ) (ps : List Pair) (accepted : IsAccepted 
   late-said : Said (lateNumber spec lateness ps) (countIn (length ps)) (lateGapsAllowed spec lateness ps) (sizesAllowed spec ps)
       (supplyKept (lateSupply lateness (spec .supply)) ps) (demandMet (lateDemand lateness (spec .demand)) ps)
   unfolding lateCycleNumber
-  late-said = rw (gets-late spec ps lateness accepted few) (said (countIn (length ps)) _ _ _ _)
+  late-said = rw (late-goes-on spec ps lateness (begins-0 spec lateness accepted few)) (said (countIn (length ps)) _ _ _ _)
 
   abbrev GapsHold : Type 0
   GapsHold = EveryDelay lateness (cycleRun ps) (λ t. GapsAllowed spec (timedGap t))
@@ -158,13 +131,12 @@ module _ (spec : Spec) (lateness : ℕ) (ps : List Pair) (accepted : IsAccepted 
   module _ (allowed : lateGapsAllowed spec lateness ps ≡ true) where
     supply : Decides (supplyKept (lateSupply lateness (spec .supply)) ps) SupplyHolds
         (SomeDelay lateness (cycleRun ps) (λ t. TooFull (spec .supply) (timedStretch t)))
-    supply =
-        supply-decided spec lateness ps some (later-gaps spec lateness ps some accepted allowed) (spec .supply) (some-minutes (spec .supply) (facts spec accepted .supply))
+    supply = supply-decided spec lateness ps some (later-gaps (cycleRun ps) lateness spec accepted (gaps .passes allowed)) (spec .supply) (facts spec accepted .supply)
 
     demand : Decides (demandMet (lateDemand lateness (spec .demand)) ps)
         (EveryDelay lateness (cycleRun ps) (λ t. DemandMet (spec .demand) (timedStretch t)))
         (SomeDelay lateness (cycleRun ps) (λ t. TooThin (spec .demand) (timedStretch t)))
-    demand = demand-decided spec lateness ps some (later-gaps spec lateness ps some accepted allowed) (spec .demand)
+    demand = demand-decided spec lateness ps some (later-gaps (cycleRun ps) lateness spec accepted (gaps .passes allowed)) (spec .demand)
 
   pub late-gap : (lateNumber spec lateness ps ≡ 13) ↔ SomeDelay lateness (cycleRun ps) (λ t. GapBroken spec (timedGap t))
   unfolding lateCycleNumber
@@ -219,32 +191,33 @@ module _ (spec : Spec) (lateness : ℕ) (ps : List Pair) (accepted : IsAccepted 
 module _ (spec : Spec) (lateness : ℕ) (ps : List Pair) where
   -- 26 is no other test's number
   pub too-late : (lateNumber spec lateness ps ≡ 26) ↔ (IsAccepted spec × (1440 < lateness))
-  unfolding lateNumber lateCycleNumber
+  unfolding lateCycleNumber
   too-late = (
     λ e.
-        let accepted = went-on (specNumber spec) _ (λ m. m) 26 (λ some z. ⊎-elim (λ h. omega arith) (λ h. omega arith) (number-few spec some)) e .0 in
         ⊎-elim
-        (λ h. (accepted, h))
-        (λ h.
+        (λ goes.
         absurd
-        (let n = sym (gets-late spec ps lateness accepted h) ∙ e in
+        (let n = sym (late-goes-on spec ps lateness goes) ∙ e in
         omega (arith, first-few (countIn (length ps)) (lateGapsAllowed spec lateness ps) (sizesAllowed spec ps) (supplyKept (lateSupply lateness (spec .supply)) ps) (demandMet (lateDemand lateness (spec .demand)) ps))))
-        (lt-cases 1440 lateness),
-    λ h. gets-26 spec ps lateness (h .0) (h .1),
+        (λ stops. begins-26-iff spec lateness .0 (sym (late-stops spec ps lateness stops) ∙ e))
+        (none-or (latenessNumber spec lateness)),
+    λ h.
+        let n = begins-26 spec lateness (h .0) (h .1) in
+        late-stops spec ps lateness (λ e. omega arith) ∙ n,
   )
 
   -- only an accepted specification passes a cycle, only for a lateness of at most 1,440, and only a cycle of 1 to 512 pairs
   passed-late : lateNumber spec lateness ps ≡ 0 → IsAccepted spec × (lateness ≤ 1440) × (1 ≤ length ps) × (length ps ≤ 512)
-  unfolding lateNumber lateCycleNumber
+  unfolding lateCycleNumber
   passed-late e =
-      let accepted = went-on (specNumber spec) _ (λ m. m) 0 (λ some z. some z) e .0 in
       ⊎-elim
-      (λ h. absurd (let n = gets-26 spec ps lateness accepted h in omega arith))
-      (λ h.
-      let n = sym (gets-late spec ps lateness accepted h) ∙ e in
+      (λ goes.
+      let n = sym (late-goes-on spec ps lateness goes) ∙ e in
       let k = countIn-true (length ps) (said (countIn (length ps)) _ _ _ _ .is-0 n .0) in
-      (accepted, h, k .0, k .1))
-      (lt-cases 1440 lateness)
+      let b = begins-iff spec lateness .0 goes in
+      (b .0, b .1, k .0, k .1))
+      (λ stops. absurd (stops (sym (late-stops spec ps lateness stops) ∙ e)))
+      (none-or (latenessNumber spec lateness))
 
 -- fewer minutes late are among the choices of more
 pub late-less : (spec : Spec) (less more : ℕ) (ps : List Pair) → less ≤ more → lateNumber spec more ps ≡ 0 → lateNumber spec less ps ≡ 0

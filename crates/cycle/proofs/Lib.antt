@@ -5,5 +5,5 @@ pub mod Steps
 pub mod CyclesPassed
 pub mod Rounds
 pub mod Numbers
-pub mod PlannedSpec
+pub mod Planned
 pub mod LatePassed

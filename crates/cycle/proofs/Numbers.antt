@@ -1,16 +1,16 @@
 -- The number of a check by that of its specification, and by what reading the specification's file gave; and of a list that has too many
 -- pairs. Both for reports on time and for late ones.
-use Prim.Native.Nat.{ℕ, _≤_, _<_}
-use mathlib.Core.Path.{_≡_, refl, sym, _∙_}
+use Prim.Native.Nat.{ℕ}
+use mathlib.Core.Path.{_≡_, refl, sym}
 use mathlib.Core.Bool.{and-false}
 use mathlib.Core.List.{List}
-use borrow.Author.Tests.{le-leb, lt-leb}
 use Rattle.spec.specs.declared.Spec.{Spec}
 use Rattle.spec.specs.declared.SpecRead.{SpecRead}
 use Rattle.spec.specs.declared.SpecRead.the-variants.{Accepted, Refused}
 use Rattle.spec.specs.File.{ifRead}
 use Rattle.spec.specs.Limits.{specNumber, IsAccepted}
 use Rattle.spec.proofs.GoingOn.{goes-on, stops}
+use Rattle.lateness.specs.Lateness.{latenessNumber}
 use Rattle.pairs.specs.declared.Pair.{Pair}
 use Rattle.pairs.specs.Pairs.{thatFit}
 use Rattle.pairs.proofs.Counts.{fit-cases}
@@ -26,19 +26,15 @@ module _ (spec : Spec) (ps : List Pair) where
   unfolding checkNumber
   gets-cycle accepted = goes-on (specNumber spec) _ (λ n. n) accepted
 
+  -- by the number with which a check with lateness begins
   module _ (lateness : ℕ) where
-    pub late-refused : ¬ IsAccepted spec → specNumber spec ≡ lateNumber spec lateness ps
+    pub late-goes-on : latenessNumber spec lateness ≡ 0 → lateNumber spec lateness ps ≡ lateCycleNumber spec lateness ps
     unfolding lateNumber
-    late-refused h = sym (stops (specNumber spec) _ (λ n. n) h)
+    late-goes-on h = goes-on (latenessNumber spec lateness) _ (λ n. n) h
 
-    module _ (accepted : IsAccepted spec) where
-      pub gets-26 : 1440 < lateness → lateNumber spec lateness ps ≡ 26
-      unfolding lateNumber
-      gets-26 h = goes-on (specNumber spec) _ (λ n. n) accepted ∙ rw (lt-leb lateness 1440 h)
-
-      pub gets-late : lateness ≤ 1440 → lateNumber spec lateness ps ≡ lateCycleNumber spec lateness ps
-      unfolding lateNumber
-      gets-late h = goes-on (specNumber spec) _ (λ n. n) accepted ∙ rw (le-leb lateness 1440 h)
+    pub late-stops : ¬ (latenessNumber spec lateness ≡ 0) → lateNumber spec lateness ps ≡ latenessNumber spec lateness
+    unfolding lateNumber
+    late-stops h = stops (latenessNumber spec lateness) _ (λ n. n) h
 
 -- a specification's file that is refused, that is accepted, where an operation goes on with f
 module _ {read : SpecRead} (f : Spec → ℕ) where

@@ -2,14 +2,12 @@
 -- round, the demand rule exactly when it is kept one minute after each of them.
 use Prim.Native.Nat.{ℕ, _+_, _≤_}
 use native.Mathlib.Omega.{arith}
-use mathlib.Core.Path.{_≡_, refl, sym}
-use mathlib.Core.Logic.{_↔_}
+use mathlib.Core.Path.{_≡_}
 use mathlib.Core.List.{List}
-use mathlib.Core.Bool.{Bool, true, false}
 use lib.Dec.{leb}
 use lib.ListN.{length}
 use borrow.Author.Tests.{le-leb, leb-true}
-use Rattle.numbers.proofs.All.{all-right}
+use Rattle.numbers.proofs.All.{all-right, same-test}
 use Rattle.spec.specs.declared.Rate.{Rate}
 use Rattle.spec.specs.declared.Rate.the-variants.{Present}
 use Rattle.pairs.specs.declared.Pair.{Pair}
@@ -19,19 +17,12 @@ use Rattle.schedule.proofs.Repeats.{full-at-report, thin-after-report}
 use Rattle.cycle.specs.declared.stretches.Rule.the-variants.{AtMost, AtLeast}
 use Rattle.cycle.specs.Cycles.{cycleRun}
 use Rattle.cycle.specs.Check.{supplyKept, demandMet}
-use Rattle.cycle.specs.PlannedSpec.{SomeMinutes}
-use Rattle.cycle.specs.Windows.{startsPass}
+use Rattle.cycle.specs.Windows.{SomeMinutes, startsPass}
 use Rattle.cycle.proofs.Runs.{gap-again, size-again, supply-right, demand-right}
 
 -- the minutes of a rate
 pub minutes-some : (rate : Rate) {b m : ℕ} → rate ≡ Present b m → SomeMinutes rate → 1 ≤ m
 minutes-some rate e h = rw e at h
-
--- two tests are equal where they pass together
-pub same-test : (a b : Bool) → (a ≡ true) ↔ (b ≡ true) → a ≡ b
-same-test true b h = sym (h .0 refl)
-same-test false true h = h .1 refl
-same-test false false h = refl
 
 module _ (ps : List Pair) (some : 1 ≤ length ps) (later : (i : ℕ) → 1 ≤ cycleRun ps .gap i) where
   pub supply-starts : (b r : ℕ) → startsPass (AtMost b) r ps ≡ supplyKept (Present b r) ps

@@ -12,8 +12,7 @@ use Rattle.pairs.specs.declared.Pair.{Pair}
 use Rattle.pairs.specs.Pairs.{countIn, pairsOf}
 use Rattle.pairs.proofs.FlatLists.{length-pairsOf}
 use Rattle.cycle.specs.Check.{gapsAllowed, sizesAllowed, firstRefusal}
-use Rattle.cycle.specs.PlannedSpec.{Judges}
-use Rattle.cycle.specs.Windows.{fieldsAllowed, runOf, Walkable}
+use Rattle.cycle.specs.Windows.{Judges, fieldsAllowed, runOf, Walkable}
 use Rattle.cycle.proofs.Runs.{gaps-right}
 
 pub count-flat : (l : List ℕ) → countIn (length l / 2) ≡ countIn (length (pairsOf l))

@@ -2,11 +2,13 @@
 -- that moves over the endless run. None of it stands in the contract of a function that others call.
 use Prim.Native.Nat.{ℕ, zero, suc, _+_, _-_, _*_, _/_, _≤_, _<_}
 use mathlib.Core.Path.{_≡_}
-use mathlib.Core.Bool.{Bool}
+use mathlib.Core.Bool.{Bool, false}
 use mathlib.Core.List.{List}
 use lib.Dec.{leb}
 use lib.ListN.{length}
 use Rattle.numbers.specs.Numbers.{all}
+use Rattle.spec.specs.declared.Rate.{Rate}
+use Rattle.spec.specs.declared.Rate.the-variants.{Absent, Present}
 use Rattle.spec.specs.declared.Spec.{Spec}
 use Rattle.spec.specs.Limits.{sizeAllowed, gapAllowed}
 use Rattle.pairs.specs.declared.Pair.{Pair}
@@ -19,6 +21,16 @@ use Rattle.cycle.specs.declared.stretches.Rule.{Rule}
 use Rattle.cycle.specs.declared.stretches.Rule.the-variants.{AtMost, AtLeast}
 use Rattle.cycle.specs.declared.stretches.Window.{Window}
 use Rattle.cycle.specs.Cycles.{pairGap, pairSize, cycleRun, round, roundRecords}
+
+-- What 12 to 16 can be judged by: no gap that is allowed is 0, and R minutes are a minute at least. An accepted specification is of this
+-- kind, and so is what planned minutes must meet.
+abbrev pub SomeMinutes : Rate → Type 0
+SomeMinutes Absent = Unit {0}
+SomeMinutes (Present records minutes) = 1 ≤ minutes
+
+pub record Judges (spec : Spec) : Type 0 where
+  pub gaps : gapAllowed spec 0 ≡ false
+  pub supply : SomeMinutes (spec .supply)
 
 -- A pair's fields by their place in it: its gap is field 0, its size field 1. Field k of pair j, and whether it may be x.
 abbrev pub field : ℕ → List Pair → ℕ → ℕ

@@ -1,12 +1,12 @@
 // Checking a cycle: 0, or the number with which documents 01 and 02 refuse it (3, 4, 24, 12 to 16). The check lays its stretches over the
 // endless repetition with two ends that only go forward, and counts whole rounds by a product, so its work is linear in the
 // number of pairs however short a round is (`stretches`). No pair is written anywhere: the stretches lie on the one round that is lent.
-// A cycle whose reports may be late (26 after 24) gets the same check, against the specification that its planned minutes must meet
-// (`planned`). What pairs are is the crate `pairs`', their file another's; the C calls over a lent list of pairs, of which one unpacks it and
+// A cycle whose reports may be late (26 after 24) gets the same check, against the specification that its planned minutes must meet (the
+// crate `lateness`). What pairs are is the crate `pairs`', their file another's; the C calls over a lent list of pairs, of which one unpacks it and
 // calls `check_late_file`, are exported by `maxeltu`.
-mod planned;
 mod stretches;
 
+use lateness::Planned;
 use spec::Rate;
 use spec::Spec;
 use spec::SpecRead;
@@ -19,11 +19,7 @@ ghost use Rattle.spec.specs.File.{readSpec};
 ghost use Rattle.pairs.specs.Pairs.{pairsOf};
 ghost use Rattle.cycle.specs.Check.{supplyKept, demandMet, cycleNumber, checkNumber};
 ghost use Rattle.cycle.specs.LateCheck.{lateNumber, lateFileNumber};
-ghost use Rattle.cycle.specs.PlannedSpec.{SomeMinutes, Judges};
-ghost use Rattle.cycle.specs.Windows.{fieldAllowed, fieldsAllowed, Walkable};
-
-// The most minutes that a report may be late.
-pub const MOST_LATE: u32 = 1440;
+ghost use Rattle.cycle.specs.Windows.{SomeMinutes, Judges, fieldAllowed, fieldsAllowed, Walkable};
 
 // Whether a pair's field may be x: its gap is field 0, its size field 1.
 fn field_allowed(spec: Spec, field: usize, x: u16) -> bool
@@ -123,14 +119,10 @@ pub fn check(spec: Spec, words: &[u16]) -> u32
 pub fn check_late(spec: Spec, words: &[u16], lateness: u32) -> u32
     ensures { λ r. ⌜ r ≡ lateNumber spec lateness (pairsOf (now (words .entry))) ⌝ }
 {
-    let refused = spec::spec_number(spec);
-    if refused != 0 {
-        return refused;
+    match lateness::planned_for(spec, lateness) {
+        Planned::Against(planned) => cycle_number(planned, words),
+        Planned::Refused(n) => n,
     }
-    if MOST_LATE < lateness {
-        return refusal::TOO_LATE;
-    }
-    cycle_number(planned::planned_spec(spec, lateness as u16), words)
 }
 
 // The same against a specification's file: only an accepted specification goes on. With no minute of lateness it is the check on time.

@@ -23,7 +23,9 @@ use Rattle.plan.specs.Reports.{reportOf}
 use Rattle.schedule.proofs.Sums.{block, sum-whole}
 use Rattle.schedule.proofs.StretchSum.{stretch-is-sum}
 use Rattle.schedule.proofs.Timed.{timed-sum, planned-stretch, planned-obeys}
-use Rattle.schedule.proofs.Delays.{delayed-later}
+use Rattle.lateness.proofs.Delays.{delayed-later}
+use Rattle.lateness.proofs.PlannedSpec.{near-gap}
+use Rattle.lateness.proofs.EverySchedule.{late-planned}
 use Rattle.schedule.proofs.Moments.{reports-least}
 use Rattle.plan.proofs.Runs.{report-0-fullest, front-fullest, row-range, row-total}
 use Rattle.plan.proofs.ThereAndBack.{last-exact, nearest-exact, there-and-back, between-exact, counts-add-up}
@@ -35,7 +37,7 @@ use Rattle.even.proofs.EvenPlans.{even-plan-obeys, even-plan-longest, even-plan
 use Rattle.pairs.specs.declared.Pair.{Pair}
 use Rattle.cycle.specs.Cycles.{cycleRun}
 use Rattle.cycle.proofs.CyclesPassed.{passed-obeys}
-use Rattle.cycle.proofs.PlannedSpec.{on-time-same}
+use Rattle.cycle.proofs.Planned.{on-time-same}
 use Rattle.cycle.proofs.LatePassed.{late-passed, late-gap, late-size, late-full, late-thin, too-late, late-less}
 use Rattle.cycle.proofs.Rounds.{whole-rounds}
 use Rattle.cost.proofs.Rounds.{plan-in-rounds, cycle-in-rounds}
@@ -154,6 +156,8 @@ demands = record {
   meter-budget = budget-kept;
   meter-holds = holds-few;
   cycle-passed = passed-obeys;
+  late-planned = late-planned;
+  late-gap-near = near-gap;
   late-numbers = λ s lateness c accepted few some most. record {
     late-passed = late-passed s lateness c accepted few some most;
     late-gap = late-gap s lateness c accepted few some most;

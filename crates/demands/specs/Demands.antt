@@ -18,8 +18,10 @@ use Rattle.spec.specs.Limits.{limits, order, specNumber, IsAccepted, gapAllowed
 use Rattle.spec.specs.File.{readSpec}
 use Rattle.schedule.specs.Schedules.{Schedule, sum, InRounds, minute, stretch, inStretch, share}
 use Rattle.schedule.specs.Moments.{IsLast, IsNearest, counted}
-use Rattle.schedule.specs.Timed.{Timed, timedShare, timedStretch, timedGap, planned, delayed, EveryDelay, SomeDelay}
+use Rattle.schedule.specs.Timed.{Timed, timedShare, timedStretch, timedGap, planned}
 use Rattle.schedule.specs.Rules.{SizesAllowed, GapsAllowed, SupplyKept, Obeys, TimedObeys, SizeBroken, GapBroken, TooFull, TooThin}
+use Rattle.lateness.specs.Delays.{delayed, EveryDelay, SomeDelay}
+use Rattle.lateness.specs.PlannedSpec.{plannedSpec}
 use Rattle.plan.specs.declared.Kind.the-variants.{Even}
 use Rattle.plan.specs.declared.Plan.{Plan}
 use Rattle.plan.specs.declared.Reported.the-variants.{At}
@@ -52,8 +54,8 @@ use Rattle.meter.specs.Plain.{Report, recordsAt, endingWith, plainAnswers, acce
 use Rattle.meter.specs.Ring.{fresh, stepped, meterAnswers, meterAfter}
 use Rattle.maxeltu.specs.Verdict.{verdictOf}
 
--- Reports that arrive late (document 02, Req 09): what each number of the check with lateness J says of a cycle. Each report is delayed by a
--- number of minutes of its own, from 0 to J, report 0's too, and the delayed minutes stand for the planned ones.
+-- What each number of the check with lateness J says of a cycle (document 02, Req 09). Each report is delayed by a number of minutes of its own,
+-- from 0 to J, report 0's too, and the delayed minutes stand for the planned ones.
 pub record LateNumbers (s : Spec) (lateness : ℕ) (c : List Pair) : Type 0 where
   -- 0: the delayed run obeys the four rules at every starting minute from 0 on, however the reports are delayed
   pub late-passed : (lateNumber s lateness c ≡ 0) ↔ EveryDelay lateness (cycleRun c) (TimedObeys s)
@@ -205,7 +207,13 @@ pub record Demands : Type 0 where
 
   -- a cycle of 1 to 512 pairs is passed exactly when its endless run obeys the four rules at every starting minute from 0 on
   pub cycle-passed : (s : Spec) (c : List Pair) → IsAccepted s → 1 ≤ length c → length c ≤ 512 → (checkNumber s c ≡ 0) ↔ Obeys s (cycleRun c)
-  -- for a J up to 1,440 each number of the check with lateness has its meaning over every choice of delays
+  -- Reports that arrive late (document 02, Req 09). Any schedule obeys the rules however its reports are delayed, each by 0 to J minutes of its
+  -- own, exactly when it obeys, on time, those that planned minutes must meet: which allow a gap exactly when every gap from J less to J
+  -- more than it is allowed.
+  pub late-planned : (s : Spec) (lateness : ℕ) (t : Schedule) → IsAccepted s → EveryDelay lateness t (TimedObeys s) ↔ Obeys (plannedSpec s lateness) t
+  pub late-gap-near : (s : Spec) (lateness g : ℕ) → IsAccepted s
+      → (gapAllowed (plannedSpec s lateness) g ≡ true) ↔ ((x : ℕ) → g - lateness ≤ x → x ≤ g + lateness → gapAllowed s x ≡ true)
+  -- of a cycle of 1 to 512 pairs, for a J up to 1,440, each number of the check with lateness has its meaning over every choice of delays
   pub late-numbers : (s : Spec) (lateness : ℕ) (c : List Pair) → IsAccepted s → lateness ≤ 1_440 → 1 ≤ length c → length c ≤ 512 → LateNumbers s lateness c
   -- 26 is given exactly to an accepted specification with a J above that
   pub too-late : (s : Spec) (lateness : ℕ) (c : List Pair) → (lateNumber s lateness c ≡ 26) ↔ (IsAccepted s × (1_440 < lateness))

@@ -2,7 +2,7 @@
 use Prim.Native.Nat.{ℕ, zero, suc, _≤_, _<_}
 use native.Mathlib.Omega.{arith}
 use native.Mathlib.Decide.{decLt}
-use mathlib.Core.Path.{_≡_, refl, sym}
+use mathlib.Core.Path.{_≡_, refl, sym, _∙_}
 use mathlib.Core.Logic.{_↔_}
 use mathlib.Core.Bool.{Bool, true, false}
 use Rattle.numbers.specs.Numbers.{all}
@@ -39,3 +39,16 @@ some-fails f (suc n) e = last (f n) refl e (some-fails f n)
     last : (b : Bool) → f n ≡ b → elim b [ true ↦ all f n | false ↦ false ] ≡ false → (all f n ≡ false → (j : ℕ) × ((j < n) × (f j ≡ false))) → (j : ℕ) × ((j < suc n) × (f j ≡ false))
     last true e a ih = let k = ih a in (k .0, (let h = k .1 .0 in omega arith, k .1 .1))
     last false e a ih = (n, (omega arith, e))
+
+-- two tests are equal where they pass together, and so are two tests of all
+pub same-test : (a b : Bool) → (a ≡ true) ↔ (b ≡ true) → a ≡ b
+same-test true b h = sym (h .0 refl)
+same-test false true h = h .1 refl
+same-test false false h = refl
+
+pub all-same : (f g : ℕ → Bool) (n : ℕ) → ((j : ℕ) → f j ≡ g j) → all f n ≡ all g n
+all-same f g n h =
+    same-test _ _ (
+      λ e. all-right g n .1 (λ j q. sym (h j) ∙ all-right f n .0 e j q),
+      λ e. all-right f n .1 (λ j q. h j ∙ all-right g n .0 e j q),
+    )

@@ -35,10 +35,11 @@ use Rattle.even.specs.declared.EvenPlan.{EvenPlan}
 use Rattle.even.specs.declared.EvenPlan.the-variants.{Found, Refused}
 use Rattle.even.specs.Even.{evenPlan, planOr10, evenPlanAt, evenGap, largest, fits, supplyFits, demandFits, totalOf, countAt}
 use Rattle.answers.specs.Answers.{Answer, consistencyAnswer, scheduledAnswer, testedAnswer, evenAnswer, numberAnswer, contentsAnswer, billAnswer}
+use Rattle.lateness.specs.Lateness.{lateGapAllowed, lateSupply, lateDemand, latenessNumber}
 use Rattle.pairs.specs.declared.Pair.{Pair}
 use Rattle.cycle.specs.Cycles.{pairGap, pairSize, cycleRun, round}
 use Rattle.cycle.specs.Check.{checkNumber, cycleNumber, firstRefusal, gapsAllowed, sizesAllowed, supplyKept, demandMet}
-use Rattle.cycle.specs.LateCheck.{lateNumber, lateCycleNumber, lateGapAllowed, lateGapsAllowed, lateSupply, lateDemand}
+use Rattle.cycle.specs.LateCheck.{lateNumber, lateCycleNumber, lateGapsAllowed}
 use Rattle.cost.specs.declared.Bill.{Bill}
 use Rattle.cost.specs.Prices.{priceIn, charge, tenths}
 use Rattle.cost.specs.Bills.{planBill, cycleBill}
@@ -324,5 +325,5 @@ samplesHold (x ∷ xs) = claimsHold (x .spec) (x .claims) && samplesHold xs
 
 -- Every value of the table is what the definitions compute.
 pub samples-hold : samplesHold samples ≡ true
-unfolding samplesHold samples sample sampleWith cycle offer offered leftIs answersAre claimsHold claimHolds same answerIs reportIs reportsAre wellFormed even minuteIs betweenIs billIs ofSchedule ofEven sameRate sameRange readTo specNumber firstNumber limits order rateLimits rangeLimits rangeOrder startsAbove inRange sizeAllowed gapAllowed topOf readSpec ifNone secondNumber oneRangeNumber started sum minute heldFrom stretch proper run kindRun wellSize wellGap evenFirst evenSize reportOf numberOf betweenOf greatest lastReport firstLeast nearestReport reportsFrom recordsFrom consistencyOf conditionsOf boundsFitRates sizeFitsBudget gapFitsDemand demandFitsDuration fewestReportsFitBudget enoughReportsForDemand supplyCoversDemand whereRate whereRange ceil scheduleFor bothRates ratesFrom scheduled exists planFor supplyFigure required available least testOf testConsistent testTaken figurePasses taken firstCount lastCount scheduleWith takenFrom betterOf isBetter familyOf evenPlan planOr10 evenPlanAt evenGap largest fits supplyFits demandFits totalOf countAt pairGap pairSize cycleRun round checkNumber cycleNumber firstRefusal gapsAllowed sizesAllowed supplyKept demandMet lateNumber lateCycleNumber lateGapAllowed lateGapsAllowed lateSupply lateDemand all priceIn charge tenths planBill cycleBill countedAt tooEarly overBudget noPlace offerNumber after later budgetLeft offerAnswer plainAnswers
+unfolding samplesHold samples sample sampleWith cycle offer offered leftIs answersAre claimsHold claimHolds same answerIs reportIs reportsAre wellFormed even minuteIs betweenIs billIs ofSchedule ofEven sameRate sameRange readTo specNumber firstNumber limits order rateLimits rangeLimits rangeOrder startsAbove inRange sizeAllowed gapAllowed topOf readSpec ifNone secondNumber oneRangeNumber started sum minute heldFrom stretch proper run kindRun wellSize wellGap evenFirst evenSize reportOf numberOf betweenOf greatest lastReport firstLeast nearestReport reportsFrom recordsFrom consistencyOf conditionsOf boundsFitRates sizeFitsBudget gapFitsDemand demandFitsDuration fewestReportsFitBudget enoughReportsForDemand supplyCoversDemand whereRate whereRange ceil scheduleFor bothRates ratesFrom scheduled exists planFor supplyFigure required available least testOf testConsistent testTaken figurePasses taken firstCount lastCount scheduleWith takenFrom betterOf isBetter familyOf evenPlan planOr10 evenPlanAt evenGap largest fits supplyFits demandFits totalOf countAt pairGap pairSize cycleRun round checkNumber cycleNumber firstRefusal gapsAllowed sizesAllowed supplyKept demandMet latenessNumber lateNumber lateCycleNumber lateGapAllowed lateGapsAllowed lateSupply lateDemand all priceIn charge tenths planBill cycleBill countedAt tooEarly overBudget noPlace offerNumber after later budgetLeft offerAnswer plainAnswers
 samples-hold = refl

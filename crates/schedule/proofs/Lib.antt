@@ -5,4 +5,3 @@ pub mod Moments
 pub mod StretchSum
 pub mod Repeats
 pub mod Timed
-pub mod Delays

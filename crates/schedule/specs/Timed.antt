@@ -1,8 +1,7 @@
 -- Reports at given minutes. Document 01, "A stretch of n minutes from a (a at least 0) is minutes a to a + n − 1. It holds, summed, the
--- sizes of the reports at those minutes", where the minutes are not those of a schedule: document 02, Req 09, "however each report is
--- delayed, by any number of minutes from 0 to J of its own. The delayed minutes stand for the planned ones in every stretch from minute 0
--- on." Report 0 need not be at minute 0.
-use Prim.Native.Nat.{ℕ, _+_, _-_, _≤_}
+-- sizes of the reports at those minutes", where the minutes are not those of a schedule: document 02, Req 09, "The delayed minutes stand
+-- for the planned ones in every stretch from minute 0 on." Report 0 need not be at minute 0.
+use Prim.Native.Nat.{ℕ, _+_, _-_}
 use mathlib.Core.Bool.{cond}
 use Rattle.schedule.specs.Schedules.{Schedule, sum, minute, inStretch}
 
@@ -28,18 +27,3 @@ timedGap t i = t .minute (i + 1) - t .minute i
 -- of the demands' page).
 abbrev pub planned : Schedule → Timed
 planned s = record { size = s .size; minute = minute s }
-
--- the reports of a schedule, each so many minutes after its own
-abbrev pub delayed : Schedule → (ℕ → ℕ) → Timed
-delayed s delay = record { size = s .size; minute = λ i. minute s i + delay i }
-
--- a choice of delays: for each report a number of minutes "from 0 to J of its own"
-abbrev pub UpTo : ℕ → (ℕ → ℕ) → Type 0
-UpTo lateness delay = (i : ℕ) → delay i ≤ lateness
-
--- what holds "however each report is delayed", and what holds "over some choice of delays"
-abbrev pub EveryDelay : ℕ → Schedule → (Timed → Type 0) → Type 0
-EveryDelay lateness s Holds = (delay : ℕ → ℕ) → UpTo lateness delay → Holds (delayed s delay)
-
-abbrev pub SomeDelay : ℕ → Schedule → (Timed → Type 0) → Type 0
-SomeDelay lateness s Holds = (delay : ℕ → ℕ) × (UpTo lateness delay × Holds (delayed s delay))

@@ -2,7 +2,7 @@
 use mathlib.Core.Path.{sym, _∙_}
 use borrow.Author.Needs.{needs}
 use Rattle.cycle.proofs.Numbers.{gets-refused, gets-cycle}
-use Rattle.cycle.proofs.PlannedSpec.{accepted-judges}
+use Rattle.cycle.proofs.Planned.{accepted-judges}
 use Rattle.cycle.proofs.check.Statement.{statement}
 use Rattle.cycle.proofs.check.Tie as tie
 

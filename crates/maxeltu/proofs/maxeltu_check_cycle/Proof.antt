@@ -41,7 +41,7 @@ use Rattle.pairs.specs.declared.Pair.{Pair}
 use Rattle.pairs.proofs.Pair as P
 use Rattle.cycle.specs.Check.{checkFileNumber}
 use Rattle.cycle.specs.LateCheck.{lateFileNumber}
-use Rattle.cycle.proofs.PlannedSpec.{on-time-number}
+use Rattle.cycle.proofs.Planned.{on-time-number}
 use Rattle.maxeltu.proofs.maxeltu_check_late as late
 use Rattle.maxeltu.proofs.maxeltu_check_late.Symbol as late-def
 use Rattle.maxeltu.proofs.maxeltu_check_late.Symbol.{name as #maxeltu·maxeltu-check-late}

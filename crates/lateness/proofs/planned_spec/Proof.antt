@@ -2,9 +2,9 @@
 use native.Mathlib.Omega.{arith}
 use borrow.Author.Needs.{needs}
 use Rattle.spec.proofs.Facts.{facts}
-use Rattle.cycle.specs.PlannedSpec.{plannedSpec}
-use Rattle.cycle.proofs.planned.planned_spec.Statement.{statement}
-use Rattle.cycle.proofs.planned.planned_spec.Tie as tie
+use Rattle.lateness.specs.PlannedSpec.{plannedSpec}
+use Rattle.lateness.proofs.planned_spec.Statement.{statement}
+use Rattle.lateness.proofs.planned_spec.Tie as tie
 
 add-t7 : tie.Need-add-t7
 add-t7 c = let f = facts _ (c .before .pre .0) in record { fits = omega (arith, f .gaps, f .gap-high, c .before .pre .1) }

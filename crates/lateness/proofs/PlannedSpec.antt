@@ -1,33 +1,24 @@
 -- The specification that planned minutes must meet. Where ranges that touch are joined, every gap from g - J to g + J is allowed exactly when
--- g is J minutes or more inside one range: otherwise some gap between the two ranges, or past them, is among those. So the check with
--- lateness is the check against that specification; and with J = 0 that is the given one.
+-- g is J minutes or more inside one range: otherwise some gap between the two ranges, or past them, is among those. With J = 0 gaps and
+-- rates are the given ones.
 use Prim.Native.Nat.{ℕ, _+_, _-_, _*_, _^_, _≤_, _<_}
 use native.Mathlib.Omega.{arith}
 use native.Mathlib.Nat.{add-zero}
 use mathlib.Core.Path.{_≡_, refl, sym, _∙_}
 use mathlib.Core.Logic.{_↔_, _⊎_, inl, inr, ⊎-elim}
-use mathlib.Core.List.{List}
-use mathlib.Core.Bool.{Bool, true, false, and-eq-true-iff}
-use lib.ListN.{length}
+use mathlib.Core.Bool.{true, and-eq-true-iff}
 use borrow.Author.Tests.{eq-eqb, ne-eqb}
-use Rattle.numbers.specs.Numbers.{all}
-use Rattle.numbers.proofs.All.{all-right}
+use Rattle.numbers.proofs.All.{all-right, same-test}
 use Rattle.numbers.proofs.Cases.{lt-cases}
 use Rattle.spec.specs.declared.Rate.{Rate}
 use Rattle.spec.specs.declared.Rate.the-variants.{Absent, Present}
 use Rattle.spec.specs.declared.Range.{Range}
 use Rattle.spec.specs.declared.Range.the-variants.{Absent as NoRange, Present as RangeOf}
 use Rattle.spec.specs.declared.Spec.{Spec}
-use Rattle.spec.specs.declared.SpecRead.{SpecRead}
-use Rattle.spec.specs.declared.SpecRead.the-variants.{Accepted, Refused}
-use Rattle.spec.specs.Limits.{rateLimits, rangeLimits, inRange, IsAccepted, sizeAllowed, gapAllowed}
-use Rattle.spec.proofs.Facts.{leb-iff, facts, range-limits-iff, Second, second-range, gap-allowed-iff, in-none, in-bounds, gap-allowed-pos}
-use Rattle.pairs.specs.declared.Pair.{Pair}
-use Rattle.cycle.specs.Cycles.{pairGap}
-use Rattle.cycle.specs.Check.{gapsAllowed, sizesAllowed, cycleNumber, checkNumber, checkFileNumber}
-use Rattle.cycle.specs.LateCheck.{lateGapAllowed, lateGapsAllowed, lateSupply, lateDemand, lateCycleNumber, lateNumber, lateFileNumber}
-use Rattle.cycle.specs.PlannedSpec.{joinedEnd, shortened, plannedSpec, SomeMinutes, Judges}
-use Rattle.cycle.proofs.Starts.{same-test}
+use Rattle.spec.specs.Limits.{rateLimits, rangeLimits, inRange, IsAccepted, gapAllowed}
+use Rattle.spec.proofs.Facts.{leb-iff, facts, range-limits-iff, second-range, gap-allowed-iff, in-none, in-bounds}
+use Rattle.lateness.specs.Lateness.{lateGapAllowed, lateSupply, lateDemand}
+use Rattle.lateness.specs.PlannedSpec.{joinedEnd, shortened, plannedSpec}
 
 -- a rate's minutes and a range's bounds, with J added, fit 16 bits
 pub minutes-fit : (rate : Rate) {b m lateness : ℕ} → rate ≡ Present b m → rateLimits rate ≡ true → lateness ≤ 1440 → m + lateness < 2 ^ 16
@@ -37,27 +28,8 @@ minutes-fit rate e h few = let k = simp (and-eq-true-iff, leb-iff) at (rw e at h
 pub bound-fits : (range : Range) {lo hi lateness : ℕ} → range ≡ RangeOf lo hi → rangeLimits 20160 range ≡ true → lateness ≤ 1440 → lo + lateness < 2 ^ 16
 bound-fits range {lo} {hi} e h few = omega (arith, range-limits-iff 20160 lo hi .0 (rw e at h) .1)
 
--- what a gap of 0, and a rate's minutes, are in an accepted specification
-pub some-minutes : (rate : Rate) → rateLimits rate ≡ true → SomeMinutes rate
-unfolding rateLimits
-some-minutes Absent h = tt
-some-minutes (Present b m) h = let k = simp (and-eq-true-iff, leb-iff) at h in omega arith
-
-not-allowed : (spec : Spec) (g : ℕ) → ¬ (gapAllowed spec g ≡ true) → gapAllowed spec g ≡ false
-not-allowed spec g h = pick (gapAllowed spec g) refl
-  where
-    pick : (b : Bool) → gapAllowed spec g ≡ b → b ≡ false
-    pick true e = absurd (h e)
-    pick false e = refl
-
-pub accepted-judges : (spec : Spec) → IsAccepted spec → Judges spec
-accepted-judges spec accepted = record {
-  gaps = not-allowed spec 0 (λ e. omega (arith, gap-allowed-pos spec 0 accepted e));
-  supply = some-minutes (spec .supply) (facts spec accepted .supply);
-}
-
 -- x is in a to b
-abbrev In : ℕ → ℕ → ℕ → Type 0
+abbrev pub In : ℕ → ℕ → ℕ → Type 0
 In a b x = (a ≤ x) × (x ≤ b)
 
 -- The first range is a to b, the second c to d, above it. Ranges that touch join, so the first then ends with d; otherwise b + 1 is in
@@ -104,10 +76,10 @@ module _ (a b c d : ℕ) (low : 1 ≤ a) (above : b < c) (second : c ≤ d) wher
         h
 
 -- the gaps that a delayed one can be, from g - J to g + J
-abbrev Near : ℕ → ℕ → ℕ → Type 0
+abbrev pub Near : ℕ → ℕ → ℕ → Type 0
 Near lateness g x = In (g - lateness) (g + lateness) x
 
-near-iff : (spec : Spec) (lateness g : ℕ) → (lateGapAllowed spec lateness g ≡ true) ↔ ((x : ℕ) → Near lateness g x → gapAllowed spec x ≡ true)
+pub near-iff : (spec : Spec) (lateness g : ℕ) → (lateGapAllowed spec lateness g ≡ true) ↔ ((x : ℕ) → Near lateness g x → gapAllowed spec x ≡ true)
 unfolding lateGapAllowed
 near-iff spec lateness g =
     let k = all-right (λ x. gapAllowed spec (g + x - lateness)) (2 * lateness + 1) in (
@@ -172,37 +144,15 @@ module _ (spec : Spec) (accepted : IsAccepted spec) (lateness g : ℕ) where
         λ e. near .1 (λ y q. gap-allowed-iff spec y .1 (ranges .0 (allowed .0 e) y q)),
       )
 
--- tests that are the same at each place
-all-same : (f g : ℕ → Bool) (n : ℕ) → ((j : ℕ) → f j ≡ g j) → all f n ≡ all g n
-all-same f g n h =
-    same-test _ _ (
-      λ e. all-right g n .1 (λ j q. sym (h j) ∙ all-right f n .0 e j q),
-      λ e. all-right f n .1 (λ j q. h j ∙ all-right g n .0 e j q),
-    )
-
--- the check with lateness is the check against that specification, which can be judged by
-module _ (spec : Spec) (lateness : ℕ) (accepted : IsAccepted spec) where
-  pub planned-number : (ps : List Pair) → lateCycleNumber spec lateness ps ≡ cycleNumber (plannedSpec spec lateness) ps
-  unfolding lateCycleNumber cycleNumber lateGapsAllowed gapsAllowed sizesAllowed sizeAllowed plannedSpec
-  planned-number ps =
-      rw (all-same (λ j. lateGapAllowed spec lateness (pairGap ps j)) (λ j. gapAllowed (plannedSpec spec lateness) (pairGap ps j)) (length ps) (λ j. planned-gap spec accepted lateness (pairGap ps j)))
-
-  longer : (rate : Rate) → rateLimits rate ≡ true → SomeMinutes (lateSupply lateness rate)
-  unfolding lateSupply
-  longer Absent h = tt
-  longer (Present b r) h = let k : 1 ≤ r = some-minutes (Present b r) h in omega arith
-
-  -- a gap of 0 is not allowed: on the way from -J to J it is 0
-  pub planned-judges : Judges (plannedSpec spec lateness)
-  unfolding plannedSpec
-  planned-judges = record {
-    gaps = not-allowed (plannedSpec spec lateness) 0
-        (λ e. omega (arith, gap-allowed-pos spec 0 accepted (near-iff spec lateness 0 .0 (planned-gap spec accepted lateness 0 ∙ e) 0 (omega arith, omega arith))));
-    supply = longer (spec .supply) (facts spec accepted .supply);
-  }
+pub near-gap : (spec : Spec) (lateness g : ℕ) → IsAccepted spec
+    → (gapAllowed (plannedSpec spec lateness) g ≡ true) ↔ ((x : ℕ) → g - lateness ≤ x → x ≤ g + lateness → gapAllowed spec x ≡ true)
+near-gap spec lateness g accepted =
+    let near = near-iff spec lateness g in
+    let same = planned-gap spec accepted lateness g in
+    (λ e x low high. near .0 (same ∙ e) x (low, high), λ h. sym same ∙ near .1 (λ x q. h x (q .0) (q .1)))
 
 -- on time, with J = 0: of the gaps from g to g there is one, and the rates are the given ones
-gap-on-time : (spec : Spec) (g : ℕ) → lateGapAllowed spec 0 g ≡ gapAllowed spec g
+pub gap-on-time : (spec : Spec) (g : ℕ) → lateGapAllowed spec 0 g ≡ gapAllowed spec g
 gap-on-time spec g =
     let near = near-iff spec 0 g in
     same-test _ _ (
@@ -210,22 +160,12 @@ gap-on-time spec g =
       λ e. near .1 (λ x q. let z : x ≡ g = omega arith in rw z e),
     )
 
-supply-on-time : (rate : Rate) → lateSupply 0 rate ≡ rate
+pub supply-on-time : (rate : Rate) → lateSupply 0 rate ≡ rate
 unfolding lateSupply
 supply-on-time Absent = refl
 supply-on-time (Present b r) = rw add-zero
 
-demand-on-time : (rate : Rate) → lateDemand 0 rate ≡ rate
+pub demand-on-time : (rate : Rate) → lateDemand 0 rate ≡ rate
 unfolding lateDemand
 demand-on-time Absent = refl
 demand-on-time (Present l p) = let e : p - 0 ≡ p = omega arith in rw e
-
-pub on-time-same : (spec : Spec) (ps : List Pair) → lateNumber spec 0 ps ≡ checkNumber spec ps
-unfolding lateNumber lateCycleNumber lateGapsAllowed checkNumber cycleNumber gapsAllowed
-on-time-same spec ps =
-    rw (all-same (λ j. lateGapAllowed spec 0 (pairGap ps j)) (λ j. gapAllowed spec (pairGap ps j)) (length ps) (λ j. gap-on-time spec (pairGap ps j)), supply-on-time (spec .supply), demand-on-time (spec .demand))
-
-pub on-time-number : (read : SpecRead) (ps : List Pair) → lateFileNumber read 0 ps ≡ checkFileNumber read ps
-unfolding lateFileNumber checkFileNumber
-on-time-number (Accepted spec) ps = on-time-same spec ps
-on-time-number (Refused n) ps = refl

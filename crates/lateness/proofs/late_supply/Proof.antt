@@ -1,10 +1,10 @@
 -- `late_supply` meets its contract, by whether there is a rate; R of a rate in its limits leaves room for J.
 use native.Mathlib.Omega.{arith}
 use borrow.Author.Needs.{needs}
-use Rattle.cycle.specs.LateCheck.{lateSupply}
-use Rattle.cycle.proofs.PlannedSpec.{minutes-fit}
-use Rattle.cycle.proofs.planned.late_supply.Statement.{statement}
-use Rattle.cycle.proofs.planned.late_supply.Tie as tie
+use Rattle.lateness.specs.Lateness.{lateSupply}
+use Rattle.lateness.proofs.PlannedSpec.{minutes-fit}
+use Rattle.lateness.proofs.late_supply.Statement.{statement}
+use Rattle.lateness.proofs.late_supply.Tie as tie
 
 enum-told : tie.Need-enum-told
 enum-told c = search needs

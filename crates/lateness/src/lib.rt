@@ -1,15 +1,26 @@
-// The specification that a cycle must meet on time, so that the given one is met however its reports are delayed, each by `lateness` minutes
-// at most: ranges of gaps without their first and their last `lateness` minutes, those that touch joined before; R longer by that much,
-// P shorter.
+// Reports that may arrive late (document 02, Req 09), each by a number of minutes of its own, up to J: the numbers with which an operation
+// that takes a lateness begins (3, 4, 24, then 26), and the specification that planned minutes must meet, so that the given one is met
+// however the reports are delayed. Ranges of gaps lose their first and their last J minutes, those that touch are joined before; R is J
+// longer, and P shorter by as much. That this is so of every schedule is proved here; which cycles meet it is left to `cycle`.
 use spec::Range;
 use spec::Rate;
 use spec::Spec;
+use spec::refusal;
 ghost use mathlib.Core.Path.{_≡_};
 ghost use mathlib.Core.Bool.{true};
 ghost use Prim.Native.Nat.{_-_, _≤_};
 ghost use Rattle.spec.specs.Limits.{rateLimits, rangeLimits, IsAccepted};
-ghost use Rattle.cycle.specs.LateCheck.{lateSupply, lateDemand};
-ghost use Rattle.cycle.specs.PlannedSpec.{joinedEnd, shortened, plannedSpec};
+ghost use Rattle.lateness.specs.Lateness.{lateSupply, lateDemand};
+ghost use Rattle.lateness.specs.PlannedSpec.{joinedEnd, shortened, plannedSpec, plannedFor};
+
+// The most minutes that a report may be late.
+pub const MOST_LATE: u32 = 1440;
+
+// What planned minutes must meet, or the number of the refusal.
+pub enum Planned {
+    Against(Spec),
+    Refused(u32),
+}
 
 // The difference, 0 where it would be below.
 fn less(a: u16, b: u16) -> u16
@@ -67,7 +78,7 @@ fn late_demand(rate: Rate, lateness: u16) -> Rate
     }
 }
 
-pub(crate) fn planned_spec(spec: Spec, lateness: u16) -> Spec
+fn planned_spec(spec: Spec, lateness: u16) -> Spec
     requires { ⌜ IsAccepted spec × (lateness ≤ 1440) ⌝ }
     ensures { λ r. ⌜ r ≡ plannedSpec spec lateness ⌝ }
 {
@@ -85,4 +96,17 @@ pub(crate) fn planned_spec(spec: Spec, lateness: u16) -> Spec
         duration,
         second: shortened(second, lateness),
     }
+}
+
+pub fn planned_for(spec: Spec, lateness: u32) -> Planned
+    ensures { λ r. ⌜ r ≡ plannedFor spec lateness ⌝ }
+{
+    let refused = spec::spec_number(spec);
+    if refused != 0 {
+        return Planned::Refused(refused);
+    }
+    if MOST_LATE < lateness {
+        return Planned::Refused(refusal::TOO_LATE);
+    }
+    Planned::Against(planned_spec(spec, lateness as u16))
 }

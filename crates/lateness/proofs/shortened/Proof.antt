@@ -1,10 +1,10 @@
 -- `shortened` meets its contract, by whether there is a range; bounds in their limits leave room for J.
 use native.Mathlib.Omega.{arith}
 use borrow.Author.Needs.{needs}
-use Rattle.cycle.specs.PlannedSpec.{shortened}
-use Rattle.cycle.proofs.PlannedSpec.{bound-fits}
-use Rattle.cycle.proofs.planned.shortened.Statement.{statement}
-use Rattle.cycle.proofs.planned.shortened.Tie as tie
+use Rattle.lateness.specs.PlannedSpec.{shortened}
+use Rattle.lateness.proofs.PlannedSpec.{bound-fits}
+use Rattle.lateness.proofs.shortened.Statement.{statement}
+use Rattle.lateness.proofs.shortened.Tie as tie
 
 enum-told : tie.Need-enum-told
 enum-told c = search needs

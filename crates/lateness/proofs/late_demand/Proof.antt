@@ -1,8 +1,8 @@
 -- `late_demand` meets its contract, by whether there is a rate.
 use borrow.Author.Needs.{needs}
-use Rattle.cycle.specs.LateCheck.{lateDemand}
-use Rattle.cycle.proofs.planned.late_demand.Statement.{statement}
-use Rattle.cycle.proofs.planned.late_demand.Tie as tie
+use Rattle.lateness.specs.Lateness.{lateDemand}
+use Rattle.lateness.proofs.late_demand.Statement.{statement}
+use Rattle.lateness.proofs.late_demand.Tie as tie
 
 enum-told : tie.Need-enum-told
 enum-told c = search needs

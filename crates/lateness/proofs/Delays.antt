@@ -8,10 +8,11 @@ use mathlib.Core.Path.{_≡_, refl}
 use mathlib.Core.Bool.{Bool, true, false, cond}
 use lib.Dec.{leb, eqb}
 use borrow.Author.Tests.{leb-true, leb-false, eq-eqb, ne-eqb}
 use Rattle.schedule.specs.Schedules.{Schedule, minute, stretch}
-use Rattle.schedule.specs.Timed.{timedStretch, timedGap, planned, delayed, UpTo}
+use Rattle.schedule.specs.Timed.{timedStretch, timedGap, planned}
 use Rattle.schedule.proofs.Before.{minute-least, minute-more}
 use Rattle.schedule.proofs.Timed.{Within, within, planned-stretch}
+use Rattle.lateness.specs.Delays.{delayed, UpTo}
 
 -- a delayed report is no earlier than its own minute
 pub delayed-later : (s : Schedule) → ((i : ℕ) → 1 ≤ s .gap i) → (delay : ℕ → ℕ) (i : ℕ) → i ≤ delayed s delay .minute i

@@ -1,9 +1,9 @@
 -- `joined_end` meets its contract, by cases: no second range, one that touches the first, one that does not.
 use borrow.Author.Needs.{needs}
 use borrow.Author.Tests.{eq-eqb, ne-eqb}
-use Rattle.cycle.specs.PlannedSpec.{joinedEnd}
-use Rattle.cycle.proofs.planned.joined_end.Statement.{statement}
-use Rattle.cycle.proofs.planned.joined_end.Tie as tie
+use Rattle.lateness.specs.PlannedSpec.{joinedEnd}
+use Rattle.lateness.proofs.joined_end.Statement.{statement}
+use Rattle.lateness.proofs.joined_end.Tie as tie
 
 enum-told : tie.Need-enum-told
 enum-told c = search needs

@@ -1,0 +1,4 @@
+pub mod Delays
+pub mod PlannedSpec
+pub mod Begins
+pub mod EverySchedule

@@ -1,0 +1,3 @@
+pub mod Delays
+pub mod Lateness
+pub mod PlannedSpec
