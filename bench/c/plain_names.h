@@ -1,6 +1,6 @@
 /*
  * Included before plain.c where it is linked beside the library: the same
- * seventeen functions under names of their own.
+ * eighteen functions under names of their own.
  */
 #define maxeltu_verdict plain_verdict
 #define maxeltu_consistency plain_consistency
@@ -14,6 +14,7 @@
 #define maxeltu_between plain_between
 #define maxeltu_plan_cost plain_plan_cost
 #define maxeltu_check_cycle plain_check_cycle
+#define maxeltu_check_late plain_check_late
 #define maxeltu_cycle_cost plain_cycle_cost
 #define maxeltu_read_cycle plain_read_cycle
 #define maxeltu_write_cycle plain_write_cycle

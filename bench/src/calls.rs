@@ -10,6 +10,7 @@ type ReportAt = unsafe extern "C" fn(u32, u32, u32, u32, u32, *mut u32) -> u32;
 type Between = unsafe extern "C" fn(u32, u32, u32, u32, u32, u32, *mut u32, *mut u64) -> u32;
 type PlanCost = unsafe extern "C" fn(u32, u32, u32, u32, u32, *mut u64, *mut u64) -> u32;
 type CheckCycle = unsafe extern "C" fn(*const u8, usize, *const Pair, usize) -> u32;
+type CheckLate = unsafe extern "C" fn(*const u8, usize, *const Pair, usize, u32) -> u32;
 type CycleCost = unsafe extern "C" fn(*const u8, usize, *const Pair, usize, u32, *mut u64, *mut u64) -> u32;
 type ReadCycle = unsafe extern "C" fn(*const u8, usize, *mut Pair, usize, *mut u32) -> u32;
 type WriteCycle = unsafe extern "C" fn(*const Pair, usize, *mut u8, usize, *mut u32) -> u32;
@@ -28,7 +29,7 @@ impl Meter {
 macro_rules! declare {
     (
         $verdict:ident $test:ident $even_plan:ident $report:ident $last_report:ident $nearest_report:ident $between:ident
-        $plan_cost:ident $check_cycle:ident $cycle_cost:ident $read_cycle:ident $write_cycle:ident
+        $plan_cost:ident $check_cycle:ident $check_late:ident $cycle_cost:ident $read_cycle:ident $write_cycle:ident
         $make_meter:ident $offer:ident
     ) => {
         extern "C" {
@@ -41,6 +42,7 @@ macro_rules! declare {
             fn $between(kind: u32, k: u32, period: u32, total: u32, a: u32, b: u32, reports: *mut u32, records: *mut u64) -> u32;
             fn $plan_cost(kind: u32, k: u32, period: u32, total: u32, reports: u32, tenths: *mut u64, cents: *mut u64) -> u32;
             fn $check_cycle(spec: *const u8, spec_len: usize, pairs: *const Pair, count: usize) -> u32;
+            fn $check_late(spec: *const u8, spec_len: usize, pairs: *const Pair, count: usize, lateness: u32) -> u32;
             fn $cycle_cost(spec: *const u8, spec_len: usize, pairs: *const Pair, count: usize, reports: u32, tenths: *mut u64, cents: *mut u64) -> u32;
             fn $read_cycle(file: *const u8, file_len: usize, pairs: *mut Pair, places: usize, count: *mut u32) -> u32;
             fn $write_cycle(pairs: *const Pair, count: usize, file: *mut u8, room: usize, written: *mut u32) -> u32;
@@ -52,12 +54,12 @@ macro_rules! declare {
 
 declare!(
     maxeltu_verdict maxeltu_test maxeltu_even_plan maxeltu_report maxeltu_last_report maxeltu_nearest_report maxeltu_between
-    maxeltu_plan_cost maxeltu_check_cycle maxeltu_cycle_cost maxeltu_read_cycle maxeltu_write_cycle
+    maxeltu_plan_cost maxeltu_check_cycle maxeltu_check_late maxeltu_cycle_cost maxeltu_read_cycle maxeltu_write_cycle
     maxeltu_make_meter maxeltu_offer
 );
 declare!(
     plain_verdict plain_test plain_even_plan plain_report plain_last_report plain_nearest_report plain_between
-    plain_plan_cost plain_check_cycle plain_cycle_cost plain_read_cycle plain_write_cycle
+    plain_plan_cost plain_check_cycle plain_check_late plain_cycle_cost plain_read_cycle plain_write_cycle
     plain_make_meter plain_offer
 );
 
@@ -71,6 +73,7 @@ pub struct Calls {
     between: Between,
     plan_cost: PlanCost,
     check_cycle: CheckCycle,
+    check_late: CheckLate,
     cycle_cost: CycleCost,
     read_cycle: ReadCycle,
     write_cycle: WriteCycle,
@@ -88,6 +91,7 @@ pub const LIBRARY: Calls = Calls {
     between: maxeltu_between,
     plan_cost: maxeltu_plan_cost,
     check_cycle: maxeltu_check_cycle,
+    check_late: maxeltu_check_late,
     cycle_cost: maxeltu_cycle_cost,
     read_cycle: maxeltu_read_cycle,
     write_cycle: maxeltu_write_cycle,
@@ -105,6 +109,7 @@ pub const PLAIN_C: Calls = Calls {
     between: plain_between,
     plan_cost: plain_plan_cost,
     check_cycle: plain_check_cycle,
+    check_late: plain_check_late,
     cycle_cost: plain_cycle_cost,
     read_cycle: plain_read_cycle,
     write_cycle: plain_write_cycle,
@@ -163,6 +168,10 @@ impl Calls {
 
     pub fn check_cycle(&self, spec: &[u8], pairs: &[Pair]) -> u32 {
         unsafe { (self.check_cycle)(spec.as_ptr(), spec.len(), pairs.as_ptr(), pairs.len()) }
+    }
+
+    pub fn check_late(&self, spec: &[u8], pairs: &[Pair], lateness: u32) -> u32 {
+        unsafe { (self.check_late)(spec.as_ptr(), spec.len(), pairs.as_ptr(), pairs.len(), lateness) }
     }
 
     /// Tenths and cents, of a cycle that is passed.

@@ -2,6 +2,7 @@
 
 mod calls;
 mod costs;
+mod late;
 mod meters;
 mod moments;
 mod windows;
@@ -189,6 +190,8 @@ fn main() {
     reports();
     moments::all();
     costs::all();
+    late::all();
     meters::all();
     windows::all();
+    late::against_check();
 }

@@ -7,20 +7,26 @@ use reference::{cycle, file, spec, verdict, Spec};
 
 const WINDOWS: [(&str, u64); 3] = [("1", 1), ("100", 100), ("20,160", 20_160)];
 
-/// A line for each window: the time of each side, and its ratio to that side's time with the first window. `call` makes the call
-/// of a side (library, plain C, literal) with a window, both by number. Every cycle must be passed: then every stretch is looked
-/// at.
-fn lines(name: &str, call: impl Fn(usize, usize) -> u32) {
+/// What stands above such lines.
+pub fn heading(name: &str) {
+    println!();
+    println!("{name:<60} {:>10} {:>8} {:>10} {:>8} {:>10} {:>8}", "library", "ratio", "plain C", "ratio", "literal", "ratio");
+}
+
+/// A line for each of the three ways to make a call: the time of each side, and its ratio to that side's time with the first way.
+/// `call` makes the call of a side (library, plain C, literal) in one way, both by number. Every cycle must be passed: then every
+/// stretch is looked at.
+pub fn lines(names: [String; 3], call: impl Fn(usize, usize) -> u32) {
     let call = &call;
     let calls: [_; 9] = std::array::from_fn(|i| move || call(i / 3, i % 3));
     for (i, call) in calls.iter().enumerate() {
-        assert_eq!(call(), 0, "side {}, {name}{}", i / 3, WINDOWS[i % 3].0);
+        assert_eq!(call(), 0, "side {}, {}", i / 3, names[i % 3]);
     }
     let times = times(calls.each_ref().map(|call| call as &dyn Fn() -> u32));
-    for (window, (minutes, _)) in WINDOWS.iter().enumerate() {
-        print!("{:<60}", format!("{name}{minutes}"));
+    for (way, name) in names.iter().enumerate() {
+        print!("{name:<60}");
         for of_side in times.chunks(3) {
-            print!(" {:>10} {:>8.2}", shown(of_side[window]), of_side[window] / of_side[0]);
+            print!(" {:>10} {:>8.2}", shown(of_side[way]), of_side[way] / of_side[0]);
         }
         println!();
     }
@@ -32,12 +38,13 @@ fn checks(name: &str, count: u64, specification: impl Fn(u64) -> Spec) {
     let spec_files = specs.each_ref().map(spec::write);
     let pairs = changing(&specs[0], count);
     let cycle_file = file::write(&pairs, usize::MAX).unwrap();
-    lines(&format!("check, {name}"), |side, window| match side {
+    let names = |call: &str| WINDOWS.map(|(minutes, _)| format!("{call}, {name}{minutes}"));
+    lines(names("check"), |side, window| match side {
         0 => LIBRARY.check_cycle(&spec_files[window], &pairs),
         1 => PLAIN_C.check_cycle(&spec_files[window], &pairs),
         _ => cycle::check(&spec::read(&spec_files[window]).unwrap(), &pairs),
     });
-    lines(&format!("verdict, {name}"), |side, window| match side {
+    lines(names("verdict"), |side, window| match side {
         0 => LIBRARY.verdict(&spec_files[window], &cycle_file),
         1 => PLAIN_C.verdict(&spec_files[window], &cycle_file),
         _ => verdict(&spec_files[window], &cycle_file),
@@ -45,11 +52,7 @@ fn checks(name: &str, count: u64, specification: impl Fn(u64) -> Spec) {
 }
 
 pub fn all() {
-    println!();
-    println!(
-        "{:<60} {:>10} {:>8} {:>10} {:>8} {:>10} {:>8}",
-        "one call, one rate; ratios to the same with 1 minute", "library", "ratio", "plain C", "ratio", "literal", "ratio"
-    );
+    heading("one call, one rate; ratios to the same with 1 minute");
     let no_rate = |gap| Spec { size: (1, 1), gap, supply: None, demand: None, duration: None, second: None };
     let supply = |gap| move |r| Spec { supply: Some((20_000, r)), ..no_rate(gap) };
     let demand = |gap| move |p| Spec { demand: Some((1, p)), ..no_rate(gap) };

@@ -1,5 +1,5 @@
 /*
- * The seventeen calls from C, through include/maxeltu.h: the samples, every
+ * The eighteen calls from C, through include/maxeltu.h: the samples, every
  * refusal of every call, and the places that a call must leave as they were.
  *
  * Prints a line for each group, whose name starts with the argument if there is
@@ -308,13 +308,15 @@ static void samples_of_minutes(void)
     end();
 }
 
-/* The check of a cycle, which the loader's call must repeat of its file, and which says whether its reports have a cost. */
+/* The check of a cycle, which the loader's call must repeat of its file, and which with lateness 0 is the same; it also says whether
+ * the reports have a cost. */
 static uint32_t check_pairs(struct spec_file s, size_t count, const struct maxeltu_pair *cycle)
 {
     uint8_t file[MAXELTU_MAX_CYCLE_FILE];
     uint32_t written, answer = maxeltu_check_cycle(SPEC(s), cycle, count);
     CHECK(maxeltu_write_cycle(cycle, count, file, sizeof file, &written) == 0);
     CHECK(maxeltu_verdict(SPEC(s), file, written) == answer);
+    CHECK(maxeltu_check_late(SPEC(s), cycle, count, 0) == answer);
     CHECK(cycle_cost(s, cycle, count, 0) == answer && (answer ? bill_untouched() : bill_holds(0, 0)));
     CHECK(cycle_cost(s, cycle, count, UINT32_MAX) == answer && bill_untouched() == (answer != 0));
     return answer;
@@ -481,6 +483,37 @@ static void largest_costs(void)
     end();
 }
 
+static struct spec_file late_spec(void) { return spec_of(15, 8, 1, 2, 2, 6, 4, 6, 2, 8); }
+
+/* The answer for one pair of this gap and size. */
+static uint32_t late(struct spec_file s, uint16_t gap, uint16_t size, uint32_t lateness)
+{
+    struct maxeltu_pair cycle = { gap, size };
+    return maxeltu_check_late(SPEC(s), &cycle, 1, lateness);
+}
+
+static void samples_of_late_reports(void)
+{
+    begin("late reports: samples");
+    CHECK(late(late_spec(), 4, 2, 0) == MAXELTU_OK && late(late_spec(), 4, 2, 1) == MAXELTU_OK);
+    CHECK(late(late_spec(), 4, 2, 2) == MAXELTU_OK && late(late_spec(), 4, 2, 3) == MAXELTU_GAP);
+    CHECK(late(late_spec(), 3, 2, 0) == MAXELTU_OK && late(late_spec(), 3, 2, 1) == MAXELTU_TOO_FULL);
+    CHECK(late(late_spec(), 4, 1, 0) == MAXELTU_OK && late(late_spec(), 4, 1, 1) == MAXELTU_TOO_THIN);
+    CHECK(late(late_spec(), 3, 2, 2) == MAXELTU_GAP && late(late_spec(), 4, 3, 2) == MAXELTU_SIZE);
+    /* Of two ranges every gap that delays make must be in one of them; those that touch leave none out. */
+    CHECK(late(two_shifts(16, 90), 15, 4, 10) == MAXELTU_OK && late(two_shifts(16, 90), 15, 4, 11) == MAXELTU_GAP);
+    CHECK(late(two_shifts(60, 90), 15, 4, 0) == MAXELTU_OK && late(two_shifts(60, 90), 15, 4, 1) == MAXELTU_GAP);
+    CHECK(late(two_shifts(17, 90), 16, 4, 1) == MAXELTU_GAP && late(two_shifts(60, 90), 40, 4, 25) == MAXELTU_GAP);
+    CHECK(late(spec_of(35, 6, 1, 10, 5, 50, 60, 90), 40, 4, 25) == MAXELTU_GAP);
+    /* Two pairs: 8 minutes need hold no more than 7 planned ones do, of which some have a report of 1 record alone. */
+    static const struct maxeltu_pair two[] = { { 3, 1 }, { 5, 2 } };
+    struct spec_file s = late_spec();
+    CHECK(maxeltu_check_late(SPEC(s), two, 2, 0) == MAXELTU_OK);
+    CHECK(maxeltu_check_late(SPEC(s), two, 2, 1) == MAXELTU_TOO_THIN);
+    CHECK(maxeltu_check_late(SPEC(s), two, 2, 2) == MAXELTU_GAP);
+    end();
+}
+
 /* ---- refusals ---- */
 
 /* Every call that takes a specification answers this, and writes nothing. */
@@ -497,6 +530,8 @@ static void refused_everywhere(struct spec_file s, uint32_t refusal)
     CHECK(even_plan(s) == refusal && untouched());
     CHECK(maxeltu_check_cycle(SPEC(s), &pair, 1) == refusal);
     CHECK(maxeltu_check_cycle(SPEC(s), &pair, 0) == refusal);
+    CHECK(maxeltu_check_late(SPEC(s), &pair, 1, 1) == refusal);
+    CHECK(maxeltu_check_late(SPEC(s), &pair, 0, UINT32_MAX) == refusal);
     CHECK(cycle_cost(s, &pair, 1, 0) == refusal && bill_untouched());
     CHECK(cycle_cost(s, &pair, 0, 4) == refusal && bill_untouched());
     fill_meter(0x5A);
@@ -700,6 +735,30 @@ static void refusals_of_costs(void)
     end();
 }
 
+static void refusals_of_late_reports(void)
+{
+    begin("late reports: refusal 26, and what it comes before");
+    struct spec_file any_gap = spec_of(3, 4, 1, 9, 1, 20160), s = late_spec();
+    static const uint32_t too_late[] = { 1441, 1442, 65536, 65537, 65536 + 1440, 0x80000000, UINT32_MAX };
+    static const struct maxeltu_pair wrong[MAXELTU_MAX_PAIRS + 1];
+    for (size_t i = 0; i < sizeof too_late / sizeof *too_late; i++) {
+        CHECK(late(any_gap, 10000, 5, too_late[i]) == MAXELTU_TOO_LATE);
+        CHECK(maxeltu_check_late(SPEC(s), wrong, 1, too_late[i]) == MAXELTU_TOO_LATE);
+        CHECK(maxeltu_check_late(SPEC(s), wrong, 0, too_late[i]) == MAXELTU_TOO_LATE);
+        CHECK(maxeltu_check_late(SPEC(s), wrong, MAXELTU_MAX_PAIRS + 1, too_late[i]) == MAXELTU_TOO_LATE);
+    }
+    CHECK(late(any_gap, 1441, 5, MAXELTU_MAX_LATENESS) == MAXELTU_OK);
+    CHECK(late(any_gap, 1440, 5, MAXELTU_MAX_LATENESS) == MAXELTU_GAP);
+    CHECK(late(any_gap, 18720, 5, MAXELTU_MAX_LATENESS) == MAXELTU_OK);
+    CHECK(late(any_gap, 18721, 5, MAXELTU_MAX_LATENESS) == MAXELTU_GAP);
+    CHECK(maxeltu_check_late(SPEC(s), wrong, 0, MAXELTU_MAX_LATENESS) == MAXELTU_COUNT);
+    CHECK(maxeltu_check_late(SPEC(s), wrong, MAXELTU_MAX_PAIRS + 1, MAXELTU_MAX_LATENESS) == MAXELTU_COUNT);
+    /* P minutes can be empty unless 9 minutes less hold a report. */
+    for (uint32_t p = 1; p < 40; p++)
+        CHECK(late(spec_of(11, 6, 1, 9, 1, 99, 1, (int)p), 10, 5, 9) == (p < 19 ? MAXELTU_TOO_THIN : MAXELTU_OK));
+    end();
+}
+
 static struct maxeltu_pair pairs[MAXELTU_MAX_PAIRS + 8];
 
 static void fill_pairs(void) { memset(pairs, 0x5A, sizeof pairs); }
@@ -804,6 +863,10 @@ static void longest_cycle(void)
     CHECK(memcmp(pairs, cycle, sizeof cycle) == 0 && pairs_untouched_from(MAXELTU_MAX_PAIRS));
     fill_pairs();
     CHECK(maxeltu_check_cycle(SPEC(wide), pairs, MAXELTU_MAX_PAIRS + 1) == MAXELTU_COUNT);
+    /* Its gaps are 100 to 106. */
+    CHECK(maxeltu_check_late(SPEC(wide), cycle, MAXELTU_MAX_PAIRS, 99) == 0);
+    CHECK(maxeltu_check_late(SPEC(wide), cycle, MAXELTU_MAX_PAIRS, 100) == MAXELTU_GAP);
+    CHECK(maxeltu_check_late(SPEC(wide), pairs, MAXELTU_MAX_PAIRS + 1, 99) == MAXELTU_COUNT);
     end();
 }
 
@@ -998,6 +1061,7 @@ static void null_for_empty(void)
     CHECK(maxeltu_verdict(SPEC(b15), NULL, 0) == MAXELTU_FILE_CUT);
     CHECK(maxeltu_even_plan(NULL, 0, &places[0], &places[1], &places[2]) == MAXELTU_SPEC_MAP);
     CHECK(maxeltu_check_cycle(SPEC(b15), NULL, 0) == MAXELTU_COUNT);
+    CHECK(maxeltu_check_late(SPEC(b15), NULL, 0, 10) == MAXELTU_COUNT);
     CHECK(cycle_cost(b15, NULL, 0, 4) == MAXELTU_COUNT && bill_untouched());
     CHECK(maxeltu_read_cycle(NULL, 0, NULL, 0, &places[0]) == MAXELTU_FILE_CUT);
     CHECK(maxeltu_read_cycle(BYTES(0, 1, 3, 0, 5, 0, 2), NULL, 0, &places[0]) == MAXELTU_NO_ROOM);
@@ -1020,12 +1084,14 @@ int main(int argc, char **argv)
     samples_of_costs();
     bands();
     largest_costs();
+    samples_of_late_reports();
     refusals_of_specifications();
     refusals_of_two_ranges();
     refusals_of_plans();
     refusals_of_reports();
     refusals_of_minutes();
     refusals_of_costs();
+    refusals_of_late_reports();
     reading_cycles();
     writing_cycles();
     longest_cycle();

@@ -64,12 +64,15 @@ struct input {
     struct maxeltu_pair last;
 };
 
+/* Every answer is the same with this lateness. */
+enum { LATENESS = 4 };
+
 static const struct input inputs[] = {
     { MAXELTU_OK, { 1, 9, 1, 20, 20000, 60, 1, 60, 30, 40 }, 1, { 7, 5 } },
     { MAXELTU_OK, { 1, 9, 1, 20, 20000, 20160, 1, 20160, 30, 40 }, 1, { 7, 5 } },
     { MAXELTU_OK, { 1, 9, 1, 20, 20000, 60, 1, 60, 30, 40 }, 512, { 7, 5 } },
     { MAXELTU_OK, { 1, 9, 1, 20, 20000, 20160, 1, 20160, 30, 40 }, 512, { 7, 5 } },
-    { MAXELTU_OK, { 1, 9, 1, 20, 20000, 60, 1, 60, 30, 40 }, 512, { 40, 5 } },
+    { MAXELTU_OK, { 1, 9, 1, 20, 20000, 60, 1, 60, 30, 40 }, 512, { 36, 5 } },
     { MAXELTU_SPEC_LIMITS, { 0, 9, 1, 20, 20000, 60, 1, 60, 30, 40 }, 512, { 7, 5 } },
     { MAXELTU_SPEC_ORDER, { 1, 9, 21, 20, 20000, 60, 1, 60, 30, 40 }, 512, { 7, 5 } },
     { MAXELTU_SPEC_RANGES, { 1, 9, 1, 20, 20000, 60, 1, 60, 20, 40 }, 512, { 7, 5 } },
@@ -118,6 +121,7 @@ static uint64_t tenths, cents;
 
 static void verdict(void) { answer = maxeltu_verdict(spec_file, sizeof spec_file, cycle_file, cycle_length); }
 static void check_cycle(void) { answer = maxeltu_check_cycle(spec_file, sizeof spec_file, pairs, count); }
+static void check_late(void) { answer = maxeltu_check_late(spec_file, sizeof spec_file, pairs, count, LATENESS); }
 static void read_cycle(void) { answer = maxeltu_read_cycle(cycle_file, cycle_length, places, COUNT_OF(places), &number); }
 static void write_cycle(void) { answer = maxeltu_write_cycle(pairs, count, bytes, sizeof bytes, &number); }
 
@@ -216,6 +220,7 @@ int main(void)
     static const struct call calls[] = {
         { "maxeltu_verdict", verdict, true },
         { "maxeltu_check_cycle", check_cycle, true },
+        { "maxeltu_check_late", check_late, true },
         { "maxeltu_cycle_cost", cycle_cost, true },
         { "maxeltu_read_cycle", read_cycle, false },
         { "maxeltu_write_cycle", write_cycle, false },

@@ -258,12 +258,12 @@ fn cycle(s: Spec, words: &[u16]) {
     end();
 }
 
-// The same where reports may be so many minutes late.
-fn late_cycle(s: Spec, words: &[u16], lateness: u32) {
+// That of a cycle of one pair, where reports may be so many minutes late.
+fn late_cycle(s: Spec, gap: u16, size: u16, lateness: u32) {
     text(b"  late by");
     number(lateness as u64);
     text(b" cycle");
-    number(cycle::check_late(s, words, lateness) as u64);
+    number(cycle::check_late(s, &[gap, size], lateness) as u64);
     end();
 }
 
@@ -410,9 +410,8 @@ fn two_shifts() {
     even_plan(s);
     cycle(s, &[15, 5, 15, 5, 5, 4, 90, 8, 60, 8]);
     cycle(s, &[15, 8, 30, 4, 90, 8]);
-    late_cycle(s, &[15, 4], 0);
-    late_cycle(s, &[15, 4], 1);
-    late_cycle(s, &[40, 4], 25);
+    late_cycle(s, 15, 4, 1);
+    late_cycle(s, 40, 4, 25);
 }
 
 // Ranges that touch are two, and a gap that was between them is allowed; ranges that overlap are refused.
@@ -420,33 +419,25 @@ fn ranges_that_touch() {
     text(b"Ranges that touch, that overlap\n");
     let touching = shifts(16, 90);
     cycle(touching, &[15, 8, 30, 4, 90, 8]);
-    late_cycle(touching, &[15, 4], 10);
-    late_cycle(touching, &[15, 4], 11);
-    late_cycle(touching, &[40, 4], 10);
-    late_cycle(touching, &[40, 4], 11);
+    late_cycle(touching, 15, 4, 10);
+    late_cycle(touching, 40, 4, 11);
     let overlapping = shifts(15, 90);
     consistency(overlapping);
     test(overlapping);
     even_plan(overlapping);
-    late_cycle(overlapping, &[], 1441);
 }
 
-// Reports that arrive late: gaps, sizes, R minutes and P minutes that just hold, and those that do not; and P minutes of no more than J.
+// Reports that arrive late: a cycle that is passed, each number that one is refused with, and P minutes of no more than J.
 fn late_reports() {
     text(b"Late reports\n");
     let s = sample(1, 2, 2, 6, 4, 6, 2, 8);
-    late_cycle(s, &[4, 2], 2);
-    late_cycle(s, &[4, 2], 3);
-    late_cycle(s, &[4, 2], 1440);
-    late_cycle(s, &[4, 2], 1441);
-    late_cycle(s, &[4, 3], 2);
-    late_cycle(s, &[3, 2], 0);
-    late_cycle(s, &[3, 2], 1);
-    late_cycle(s, &[4, 1], 0);
-    late_cycle(s, &[4, 1], 1);
-    late_cycle(s, &[], 1440);
-    late_cycle(s, &[], 1441);
-    late_cycle(sample(1, 9, 1, 9, 9, 1, 1, 3), &[4, 9], 3);
+    late_cycle(s, 4, 2, 2);
+    late_cycle(s, 4, 2, 3);
+    late_cycle(s, 4, 2, 1441);
+    late_cycle(s, 4, 3, 2);
+    late_cycle(s, 3, 2, 1);
+    late_cycle(s, 4, 1, 1);
+    late_cycle(sample(1, 9, 1, 9, 9, 1, 1, 3), 4, 9, 3);
 }
 
 fn main() {

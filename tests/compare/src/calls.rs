@@ -6,7 +6,7 @@ use crate::library::{Library, Outcome};
 use crate::plans::{plan_of, some_plan};
 use crate::random::Random;
 use reference::feasibility::{self, Failure};
-use reference::schedule::{obeys, LAID_OUT};
+use reference::schedule::{least_and_most_by_report, obeys, LAID_OUT};
 use reference::{cycle, even, file, plan, spec, verdict, Kind, Pair, Plan, Refusal, Spec};
 
 pub fn all(runner: &mut Runner) {
@@ -491,7 +491,7 @@ pub fn reference_itself(runner: &mut Runner) {
         let by_minute = reference::schedule::least_and_most_by_minute(&run, window);
         // 1 where some stretch holds more than another: where none does, the two ways can hardly differ.
         let apart = u32::from(by_minute.0 < by_minute.1);
-        same(apart, reference::schedule::least_and_most_by_report(&run, window), by_minute, || format!("{pairs:?} {window}"))
+        same(apart, least_and_most_by_report(&run, window), by_minute, || format!("{pairs:?} {window}"))
     });
     runner.random("reference: whole check by minute, long rounds", RUNS / 2_000, &[0, 15, 16], |random, _| {
         let mut spec = generate::near_spec(random, FULL);
@@ -499,7 +499,7 @@ pub fn reference_itself(runner: &mut Runner) {
         let pairs = generate::cycle_in_range(random, &spec, most);
         spec.size = (1, 1_000);
         if random.once_in(2) {
-            generate::fit_rates(random, &mut spec, &pairs);
+            generate::fit_rates(random, &mut spec, |n| least_and_most_by_report(&cycle::Cycle(&pairs), n));
         }
         let by_minute = cycle::check_laid_out(&spec, &pairs, u64::MAX);
         same(by_minute, cycle::check_laid_out(&spec, &pairs, 0), by_minute, || format!("{spec:?} {pairs:?}"))

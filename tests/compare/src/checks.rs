@@ -3,6 +3,7 @@
 use crate::calls::{consistency_outcome, expected};
 use crate::costs::billed;
 use crate::group::Runner;
+use crate::late;
 use crate::library::{Billed, Library, Outcome};
 use crate::ring::{Meter, BYTES};
 use reference::cost::{self, Cost};
@@ -83,6 +84,7 @@ impl Checks {
         let got = (
             library.verdict(file, &[0, 1, 3, 0, 5, 0, 2]),
             library.check_cycle(file, &[Pair { gap: 5, size: 2 }]),
+            [0, 1, 1_440, 1_441, u32::MAX].map(|lateness| library.check_late(file, &[Pair { gap: 5, size: 2 }], lateness)),
             [0, 4].map(|reports| library.cycle_cost(file, &[Pair { gap: 5, size: 2 }], reports, HELD_BILL)),
             library.consistency(file, [HELD]),
             library.min_demand(file, 1, [HELD; 3]),
@@ -95,7 +97,7 @@ impl Checks {
             (expected(Err(wanted), [HELD]), expected(Err(wanted), [HELD; 3]), expected(Err(wanted), [HELD; 5]));
         let bills = [billed(Err(wanted), HELD_BILL); 2];
         let kept = (wanted, true);
-        let all = (wanted, wanted, bills, one, three, three, five, three, kept);
+        let all = (wanted, wanted, [wanted; 5], bills, one, three, three, five, three, kept);
         self.holds(format!("library, {name}: {got:?}, not {wanted}"), got == all);
         let read = spec::read(file);
         self.holds(format!("reference, {name}: {read:?}, not {wanted}"), read == Err(wanted));
@@ -273,9 +275,10 @@ impl Checks {
         }
     }
 
-    /// The check of a cycle, on its pairs and, where they have a file, through the loader's call. What its reports cost gets the same
-    /// number.
+    /// The check of a cycle, on its pairs and, where they have a file, through the loader's call. With lateness 0, and of what its reports
+    /// cost, the number is the same.
     pub fn cycle(&mut self, name: &str, spec: &Spec, pairs: &[(u16, u16)], wanted: u32) {
+        self.late(name, spec, pairs, 0, wanted);
         let pairs = pairs_of(pairs);
         let spec_file = spec::write(spec);
         let got = self.library.check_cycle(&spec_file, &pairs);
@@ -287,6 +290,14 @@ impl Checks {
         if let Ok(cycle_file) = file::write(&pairs, usize::MAX) {
             self.verdict(name, spec, &cycle_file, wanted);
         }
+    }
+
+    /// The check of a cycle whose reports may arrive so many minutes late.
+    pub fn late(&mut self, name: &str, spec: &Spec, pairs: &[(u16, u16)], lateness: u32, wanted: u32) {
+        let (file, pairs) = (spec::write(spec), pairs_of(pairs));
+        let got = self.library.check_late(&file, &pairs, lateness);
+        let reference = late::number(&file, &pairs, lateness.into());
+        self.both(&format!("{name}, {lateness} minutes late"), got, reference, wanted);
     }
 
     /// What is refused is refused again where nothing can be written.

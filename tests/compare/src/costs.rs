@@ -4,6 +4,7 @@
 
 use crate::calls::{expected, hex};
 use crate::checks::{demand_only, no_rates, supply_only, with_second, HELD_BILL};
+use crate::exhaustive::SmallCycles;
 use crate::generate;
 use crate::group::{same, Counts, Met, Runner, Verdict, RUNS};
 use crate::library::{Billed, Library};
@@ -20,7 +21,7 @@ pub fn all(runner: &mut Runner) {
     runner.every("every small plan: what every number of reports costs", SMALL.plans(), &[0, 11], small_plan_case);
     runner.every("every plan of few reports at a band's end: what every number costs", AT_BANDS, &[0, 11], at_band_case);
     let checked = [0, 12, 13, 14, 15, 16];
-    runner.every("every small cycle: what every number of reports costs", SMALL_CYCLES, &checked, small_cycle_case);
+    runner.every("every small cycle: what every number of reports costs", SMALL_CYCLES.count(), &checked, small_cycle_case);
     runner.random("cost of a plan", RUNS, &[0, 11], plan_case);
     runner.random("cost of a cycle", RUNS, &[0, 1, 2, 3, 4, 12, 13, 14, 15, 16, 24], cycle_case);
     runner.random("costs of whole rounds are a product", RUNS, &[0, 1, 10, 11], rounds_case);
@@ -178,24 +179,11 @@ fn at_band_case(number: u64, library: &mut Library) -> Result<Counts, String> {
     Ok(counts)
 }
 
-/// Cycles of up to three pairs have gaps of 1 and 2 and sizes of 1 to this. The first of them has no pair.
-const MOST_SIZE: u64 = 5;
-const PAIRS: u64 = 2 * MOST_SIZE;
-const SMALL_CYCLES: u64 = 1 + PAIRS + PAIRS * PAIRS + PAIRS * PAIRS * PAIRS;
-
-fn small_cycle(mut number: u64) -> Vec<Pair> {
-    let mut pairs = vec![];
-    while number > 0 {
-        let pair = (number - 1) % PAIRS;
-        pairs.push(Pair { gap: (pair / MOST_SIZE + 1) as u16, size: (pair % MOST_SIZE + 1) as u16 });
-        number = (number - 1) / PAIRS;
-    }
-    pairs
-}
+const SMALL_CYCLES: SmallCycles = SmallCycles { pairs: 3, gaps: 2, sizes: 5 };
 
 /// Three rounds, and a report more, against specifications that pass all of these cycles, some or none.
 fn small_cycle_case(number: u64, library: &mut Library) -> Result<Counts, String> {
-    let pairs = small_cycle(number);
+    let pairs = SMALL_CYCLES.cycle(number);
     let mut counts = Counts::new();
     for spec in [
         no_rates((1, 5), (1, 2)),

@@ -1,9 +1,10 @@
-//! Every specification with small numbers, of one range of gaps and of two, for each of them every short cycle; every short list of
-//! offers to every small meter; and every small even plan: nothing here is left to chance.
+//! Every specification with small numbers, of one range of gaps and of two, for each of them every short cycle, also one whose reports
+//! may arrive late; every short list of offers to every small meter; and every small even plan: nothing here is left to chance.
 
 use crate::calls::{consistency_outcome, expected, with_condition};
 use crate::checks::HELD;
 use crate::group::{same, Counts, Met, Runner, Verdict};
+use crate::late;
 use crate::library::{Library, Outcome};
 use crate::meters::Trial;
 use crate::ring::{Meter, BYTES};
@@ -14,13 +15,38 @@ use reference::{cycle, even, spec, Pair, Spec};
 
 type Range = (u64, u64);
 
-/// Specifications of small numbers: which ranges of sizes they have, and which of gaps, the second of which may be absent. Sizes and gaps
-/// of cycles are 1 to these.
+/// Specifications of small numbers: which ranges of sizes they have, and which of gaps, the second of which may be absent. The records of
+/// a rate are 1 to `records`, its minutes 1 to `minutes`. And the cycles that are asked of each.
 struct Small {
     sizes: Vec<Range>,
     gaps: Vec<(Range, Option<Range>)>,
-    most_size: u64,
-    most_gap: u64,
+    records: u64,
+    minutes: u64,
+    cycles: SmallCycles,
+}
+
+/// Cycles of up to so many pairs, whose gaps and sizes are 1 to these. The first of them has no pair.
+pub struct SmallCycles {
+    pub pairs: u32,
+    pub gaps: u64,
+    pub sizes: u64,
+}
+
+impl SmallCycles {
+    pub fn count(&self) -> u64 {
+        (0..=self.pairs).map(|pairs| (self.gaps * self.sizes).pow(pairs)).sum()
+    }
+
+    /// The cycle of a number.
+    pub fn cycle(&self, mut number: u64) -> Vec<Pair> {
+        let mut pairs = vec![];
+        while number > 0 {
+            let pair = (number - 1) % (self.gaps * self.sizes);
+            pairs.push(Pair { gap: (pair / self.sizes + 1) as u16, size: (pair % self.sizes + 1) as u16 });
+            number = (number - 1) / (self.gaps * self.sizes);
+        }
+        pairs
+    }
 }
 
 /// The ranges within 1 to `most`.
@@ -29,29 +55,48 @@ fn ranges(most: u64) -> impl Iterator<Item = Range> {
 }
 
 fn of_one_range() -> Small {
-    let gaps = ranges(3).map(|gap| (gap, None)).collect();
-    Small { sizes: ranges(3).collect(), gaps, most_size: 3, most_gap: 3 }
+    let cycles = SmallCycles { pairs: 2, gaps: 3, sizes: 3 };
+    Small { sizes: ranges(3).collect(), gaps: one_range(3).collect(), records: RATE, minutes: RATE, cycles }
 }
 
 /// The ranges touch, or leave one or two gaps out.
 fn of_two_ranges() -> Small {
-    let pairs = ranges(4).flat_map(|gap| ranges(4).map(move |second| (gap, second)));
-    let gaps = pairs.filter(|(gap, second)| second.0 > gap.1).map(|(gap, second)| (gap, Some(second))).collect();
-    Small { sizes: ranges(2).collect(), gaps, most_size: 2, most_gap: 4 }
+    let cycles = SmallCycles { pairs: 2, gaps: 4, sizes: 2 };
+    Small { sizes: ranges(2).collect(), gaps: two_ranges(4).collect(), records: RATE, minutes: RATE, cycles }
 }
 
-/// Rates and their windows are 1 to this.
+/// With gaps of 1 to 5 reports may be two minutes late.
+fn for_late_reports() -> Small {
+    let cycles = SmallCycles { pairs: 2, gaps: 5, sizes: 2 };
+    Small { sizes: vec![(1, 2)], gaps: one_range(5).chain(two_ranges(5)).collect(), records: 3, minutes: 6, cycles }
+}
+
+/// Every first range within 1 to `most`, and no second.
+pub fn one_range(most: u64) -> impl Iterator<Item = (Range, Option<Range>)> {
+    ranges(most).map(|gap| (gap, None))
+}
+
+/// Every two ranges within 1 to `most`, of which the second starts above the first.
+pub fn two_ranges(most: u64) -> impl Iterator<Item = (Range, Option<Range>)> {
+    let pairs = ranges(most).flat_map(move |gap| ranges(most).map(move |second| (gap, second)));
+    pairs.filter(|(gap, second)| second.0 > gap.1).map(|(gap, second)| (gap, Some(second)))
+}
+
+/// The rates of specifications for every call, and their windows, are 1 to this.
 const RATE: u64 = 8;
-const RATES: u64 = RATE * RATE + 1;
-
-/// A rate from its number: 0 is the absent one.
-fn rate(number: u64) -> Option<(u64, u64)> {
-    (number > 0).then(|| ((number - 1) / RATE + 1, (number - 1) % RATE + 1))
-}
 
 impl Small {
+    fn rates(&self) -> u64 {
+        self.records * self.minutes + 1
+    }
+
+    /// A rate from its number: 0 is the absent one.
+    fn rate(&self, number: u64) -> Option<(u64, u64)> {
+        (number > 0).then(|| ((number - 1) / self.minutes + 1, (number - 1) % self.minutes + 1))
+    }
+
     fn specifications(&self) -> u64 {
-        (self.sizes.len() * self.gaps.len()) as u64 * RATES * RATES
+        (self.sizes.len() * self.gaps.len()) as u64 * self.rates() * self.rates()
     }
 
     fn specification(&self, mut number: u64) -> Spec {
@@ -62,28 +107,17 @@ impl Small {
         };
         let size = self.sizes[digit(self.sizes.len() as u64) as usize];
         let (gap, second) = self.gaps[digit(self.gaps.len() as u64) as usize];
-        Spec { size, gap, supply: rate(digit(RATES)), demand: rate(digit(RATES)), duration: None, second }
+        let [supply, demand] = [digit(self.rates()), digit(self.rates())].map(|number| self.rate(number));
+        Spec { size, gap, supply, demand, duration: None, second }
     }
 
-    fn pairs(&self) -> u64 {
-        self.most_size * self.most_gap
+    /// How many cases a specification and a cycle make.
+    fn cases(&self) -> u64 {
+        self.specifications() * self.cycles.count()
     }
 
-    /// A pair from its number.
-    fn pair(&self, number: u64) -> Pair {
-        Pair { gap: (number / self.most_size + 1) as u16, size: (number % self.most_size + 1) as u16 }
-    }
-
-    /// The cycles of 1 or 2 pairs.
-    fn cycles(&self) -> u64 {
-        self.pairs() * (self.pairs() + 1)
-    }
-
-    fn cycle(&self, number: u64) -> Vec<Pair> {
-        let (first, second) = (number % self.pairs(), number / self.pairs());
-        // The last number of the second pair stands for none.
-        let second = (second < self.pairs()).then(|| self.pair(second));
-        [self.pair(first)].into_iter().chain(second).collect()
+    fn case(&self, number: u64) -> (Spec, Vec<Pair>) {
+        (self.specification(number / self.cycles.count()), self.cycles.cycle(number % self.cycles.count()))
     }
 }
 
@@ -92,6 +126,12 @@ pub fn all(runner: &mut Runner) {
     every_small(runner, "every small specification", &of_one_range(), met);
     let met = MustMeet { consistency: &[25], schedules: &[25], test: &[25] };
     every_small(runner, "every small specification of two ranges", &of_two_ranges(), met);
+    let small = for_late_reports();
+    let name = "every small specification: every cycle of up to 2 pairs, up to 2 minutes late";
+    runner.every(name, small.cases(), &[0, 12, 13, 15, 16], |number, library| {
+        let (spec, pairs) = small.case(number);
+        late::every_lateness(&spec, &pairs, 2, library)
+    });
     runner.every("every small even plan: rows of reports", COUNTS * TOTALS, &[0, 1], row_case);
     runner.every("every small meter: every list of 4 offers", METERS * OFFERS, &[0, 13, 14, 15], offers_case);
 }
@@ -117,13 +157,11 @@ fn every_small(runner: &mut Runner, name: &str, small: &Small, met: MustMeet) {
     runner.every(&format!("{name}: even plan, size lists searched"), specifications, &[0, 10], |number, library| {
         even_case(&small.specification(number), library)
     });
-    let cycles = small.cycles();
-    runner.every(
-        &format!("{name}: every cycle of 1 or 2 pairs"),
-        specifications * cycles,
-        &[0, 13, 14, 15, 16],
-        |number, library| cycle_case(&small.specification(number / cycles), &small.cycle(number % cycles), library),
-    );
+    let name = format!("{name}: every cycle of up to 2 pairs");
+    runner.every(&name, small.cases(), &[0, 12, 13, 14, 15, 16], |number, library| {
+        let (spec, pairs) = small.case(number);
+        cycle_case(&spec, &pairs, library)
+    });
 }
 
 fn consistency_case(spec: &Spec, library: &mut Library) -> Verdict {

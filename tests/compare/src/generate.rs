@@ -222,7 +222,7 @@ pub fn spec_and_cycle(random: &mut Random) -> (Spec, Vec<Pair>) {
         cycle_in_range(random, &spec, count)
     };
     if !random.once_in(4) {
-        fit_rates(random, &mut spec, &pairs);
+        fit_rates(random, &mut spec, |n| least_and_most_by_report(&Cycle(&pairs), n));
     }
     if random.once_in(8) {
         spoil(random, &spec, &mut pairs);
@@ -240,22 +240,22 @@ fn most_reports(random: &mut Random, spec: &mut Spec) -> Pair {
     Pair { gap: 1, size: spec.size.0 as u16 }
 }
 
-/// Moves B and L to what the cycle holds at its fullest and thinnest, or one off.
-pub fn fit_rates(random: &mut Random, spec: &mut Spec, pairs: &[Pair]) {
+/// Moves B and L to the most and the least that their minutes hold, or one off.
+pub fn fit_rates(random: &mut Random, spec: &mut Spec, least_and_most: impl Fn(u64) -> (u64, u64)) {
     let off = |random: &mut Random, held: u64| {
         let by = random.pick(&[0, 0, 1]);
         random.near(held, by, 20_000)
     };
     if let Some((b, r)) = &mut spec.supply {
-        *b = off(random, least_and_most_by_report(&Cycle(pairs), *r).1);
+        *b = off(random, least_and_most(*r).1);
     }
     if let Some((l, p)) = &mut spec.demand {
-        *l = off(random, least_and_most_by_report(&Cycle(pairs), *p).0);
+        *l = off(random, least_and_most(*p).0);
     }
 }
 
 /// Puts one number of a cycle out of range, or changes its count to none or too many.
-fn spoil(random: &mut Random, spec: &Spec, pairs: &mut Vec<Pair>) {
+pub fn spoil(random: &mut Random, spec: &Spec, pairs: &mut Vec<Pair>) {
     let outside = |random: &mut Random, range: (u64, u64)| random.pick(&[range.0 - 1, range.1 + 1, 0, 65_535]) as u16;
     let at = random.below(pairs.len() as u64) as usize;
     match random.below(6) {

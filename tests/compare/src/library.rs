@@ -1,4 +1,4 @@
-//! The seventeen calls of include/maxeltu.h, each wrapped so that its answer can be compared whole: every place that it was lent
+//! The eighteen calls of include/maxeltu.h, each wrapped so that its answer can be compared whole: every place that it was lent
 //! is handed back with what it holds afterwards, and what it should only have read is looked at again.
 
 use crate::fence::Fence;
@@ -19,6 +19,7 @@ extern "C" {
     fn maxeltu_between(kind: u32, k: u32, period: u32, total: u32, a: u32, b: u32, reports: *mut u32, records: *mut u64) -> u32;
     fn maxeltu_plan_cost(kind: u32, k: u32, period: u32, total: u32, reports: u32, tenths: *mut u64, cents: *mut u64) -> u32;
     fn maxeltu_check_cycle(spec: *const u8, spec_len: usize, pairs: *const Pair, count: usize) -> u32;
+    fn maxeltu_check_late(spec: *const u8, spec_len: usize, pairs: *const Pair, count: usize, lateness: u32) -> u32;
     fn maxeltu_cycle_cost(spec: *const u8, spec_len: usize, pairs: *const Pair, count: usize, reports: u32, tenths: *mut u64, cents: *mut u64) -> u32;
     fn maxeltu_read_cycle(file: *const u8, file_len: usize, pairs: *mut Pair, places: usize, count: *mut u32) -> u32;
     fn maxeltu_write_cycle(pairs: *const Pair, count: usize, file: *mut u8, room: usize, written: *mut u32) -> u32;
@@ -204,6 +205,10 @@ impl Library {
 
     pub fn check_cycle(&mut self, spec: &[u8], pairs: &[Pair]) -> u32 {
         self.with_cycle(spec, pairs, |at, len, list| unsafe { maxeltu_check_cycle(at, len, list, pairs.len()) })
+    }
+
+    pub fn check_late(&mut self, spec: &[u8], pairs: &[Pair], lateness: u32) -> u32 {
+        self.with_cycle(spec, pairs, |at, len, list| unsafe { maxeltu_check_late(at, len, list, pairs.len(), lateness) })
     }
 
     pub fn plan_cost(&mut self, kind: u32, [k, period, total]: [u32; 3], reports: u32, before: [u64; 2]) -> Billed {

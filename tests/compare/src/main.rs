@@ -15,6 +15,8 @@ mod exhaustive;
 mod fence;
 mod generate;
 mod group;
+mod late;
+mod late_edges;
 mod library;
 mod limits;
 mod meters;
@@ -49,11 +51,13 @@ fn main() {
             edges::all(&mut runner);
             ranges::all(&mut runner);
             rounds::all(&mut runner);
+            late_edges::all(&mut runner);
             calls::reference_itself(&mut runner);
             exhaustive::all(&mut runner);
             calls::all(&mut runner);
             moments::all(&mut runner);
             costs::all(&mut runner);
+            late::all(&mut runner);
             meters::all(&mut runner);
         }
         ["evenplan", program] => program::all(&mut runner, program.as_ref()),

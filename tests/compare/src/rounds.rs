@@ -22,15 +22,16 @@ pub fn all(runner: &mut Runner) {
 type Input = (Vec<Pair>, Vec<u64>);
 
 fn group(runner: &mut Runner, name: &str, inputs: Vec<Input>) {
-    let cases: Vec<Case> = inputs.iter().flat_map(|(pairs, windows)| cases_of(pairs, windows)).collect();
+    let rates = |(pairs, windows): &Input| windows.iter().map(|&minutes| rates_of(pairs, minutes)).collect::<Vec<Rates>>();
+    let cases: Vec<Case> = inputs.iter().flat_map(|input| cases_of(&input.0, &rates(input))).collect();
     runner.every(name, cases.len() as u64, &[0, 15, 16], |number, library| compare(&cases[number as usize], library));
 }
 
 /// A cycle, a specification, and the answer that follows from the sums made here.
-struct Case<'a> {
-    pairs: &'a [Pair],
-    spec: Spec,
-    answer: u32,
+pub struct Case<'a> {
+    pub pairs: &'a [Pair],
+    pub spec: Spec,
+    pub answer: u32,
 }
 
 fn compare(case: &Case, library: &mut Library) -> Verdict {
@@ -88,16 +89,20 @@ struct Rate {
     kept: bool,
 }
 
+fn rates_of(pairs: &[Pair], minutes: u64) -> Rates {
+    let sums: Vec<u64> = starts(pairs).into_iter().map(|a| held(pairs, a, minutes)).collect();
+    Rates::new(minutes, (*sums.iter().min().expect("a start"), *sums.iter().max().expect("a start")))
+}
+
 /// The supply rates and the demand rates of so many minutes, each at what the cycle holds, one below and one above.
-struct Rates {
+pub struct Rates {
     supplies: Vec<Rate>,
     demands: Vec<Rate>,
 }
 
 impl Rates {
-    fn of(pairs: &[Pair], minutes: u64) -> Rates {
-        let sums: Vec<u64> = starts(pairs).into_iter().map(|a| held(pairs, a, minutes)).collect();
-        let (least, most) = (*sums.iter().min().expect("a start"), *sums.iter().max().expect("a start"));
+    /// By the least and the most that so many minutes hold.
+    pub fn new(minutes: u64, (least, most): (u64, u64)) -> Rates {
         Rates {
             supplies: around(most).map(|b| Rate { records: b, minutes, kept: most <= b }).collect(),
             demands: around(least).map(|l| Rate { records: l, minutes, kept: least >= l }).collect(),
@@ -112,8 +117,7 @@ fn around(records: u64) -> impl Iterator<Item = u64> {
 }
 
 /// Each window as R alone, as P alone, and as R with itself for P and with the window that is as far from the other end.
-fn cases_of<'a>(pairs: &'a [Pair], windows: &[u64]) -> Vec<Case<'a>> {
-    let rates: Vec<Rates> = windows.iter().map(|&minutes| Rates::of(pairs, minutes)).collect();
+pub fn cases_of<'a>(pairs: &'a [Pair], rates: &[Rates]) -> Vec<Case<'a>> {
     let mut cases = vec![];
     for (one, other) in rates.iter().zip(rates.iter().rev()) {
         cases.extend(one.supplies.iter().map(|&supply| case_of(pairs, Some(supply), None)));

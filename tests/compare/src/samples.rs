@@ -1,6 +1,6 @@
 //! The samples of document 01, starred or not, through the library and through the reference, and the files in samples/. The sizes of
-//! even plans are those of document 02, Req 02, the meter is that of Req 03, the van of two shifts that of Req 06, and the prices
-//! are those of Req 08.
+//! even plans are those of document 02, Req 02, the meter is that of Req 03, the van of two shifts that of Req 06, the prices are those
+//! of Req 08, and the reports that arrive late those of Req 09.
 
 use crate::checks::{self, both_rates, pairs_of, with_second, Checks, Offer};
 use crate::group::Runner;
@@ -46,6 +46,7 @@ pub fn all(runner: &mut Runner) {
     });
     checks::group(runner, "samples of plans, from a minute back to the report", minutes);
     checks::group(runner, "samples of plans and cycles, what they cost", costs);
+    checks::group(runner, "samples of cycles with late reports", late);
     checks::group(runner, "samples of meters", meters);
 }
 
@@ -135,9 +136,40 @@ fn costs(checks: &mut Checks) {
     }
 }
 
+/// The cycles of samples/late-*.cycle, and others, against their specifications: the answer for each lateness.
+fn late(checks: &mut Checks) {
+    let spec = both_rates((1, 2), (2, 6), (4, 6), (2, 8));
+    checks.file("late.spec", &spec::write(&spec));
+    for (name, pair) in [("late-good", (4, 2)), ("late-full", (3, 2)), ("late-thin", (4, 1)), ("late-shift", (15, 4))] {
+        checks.file(&format!("{name}.cycle"), &file::write(&pairs_of(&[pair]), usize::MAX).expect(name));
+    }
+    let [shift, touching] = [60, 16].map(|lower| with_second(&one_shift(), (lower, 90)));
+    // With 2 to 3 and 4 to 6 the gaps of `late.spec` are all allowed; with 1 to 3 and 5 to 6, 4 is not.
+    let cut = with_second(&Spec { gap: (2, 3), ..spec.clone() }, (4, 6));
+    let apart = with_second(&Spec { gap: (1, 3), ..spec.clone() }, (5, 6));
+    let rows: [(&str, &Spec, &[(u16, u16)], &[(u32, u32)]); 11] = [
+        ("late-good", &spec, &[(4, 2)], &[(0, 0), (1, 0), (2, 0), (3, 13), (4, 13), (1_440, 13), (1_441, 26)]),
+        ("late-full", &spec, &[(3, 2)], &[(0, 0), (1, 15), (2, 13), (1_441, 26)]),
+        ("late-thin", &spec, &[(4, 1)], &[(0, 0), (1, 16), (2, 16), (3, 13)]),
+        ("two pairs", &spec, &[(3, 1), (5, 2)], &[(0, 0), (1, 16), (2, 13)]),
+        ("late-good, ranges that touch", &cut, &[(4, 2)], &[(0, 0), (1, 0), (2, 0), (3, 13)]),
+        ("late-full, ranges apart", &apart, &[(3, 2)], &[(0, 0), (1, 13), (2, 13)]),
+        ("late-shift, ranges that touch", &touching, &[(15, 4)], &[(0, 0), (1, 0), (10, 0), (11, 13)]),
+        ("late-shift", &shift, &[(15, 4)], &[(0, 0), (1, 13)]),
+        ("A", &a_with(29), &[(52, 6), (53, 6), (53, 5)], &[(0, 0), (1, 16), (2, 16), (3, 13)]),
+        ("two shifts", &shift, &SHIFT_GOOD, &[(0, 0), (1, 13)]),
+        ("no pair", &spec, &[], &[(0, 12), (1_440, 12), (1_441, 26)]),
+    ];
+    for (name, spec, pairs, wanted) in rows {
+        for &(lateness, wanted) in wanted {
+            checks.late(name, spec, pairs, lateness, wanted);
+        }
+    }
+}
+
 fn meters(checks: &mut Checks) {
-    let sound =
-        ["a", "a28", "b", "b14", "b15", "c", "d", "e", "f", "f15", "f-no-demand", "shift", "touching"].map(|name| (name, 0));
+    let sound = ["a", "a28", "b", "b14", "b15", "c", "d", "e", "f", "f15", "f-no-demand", "shift", "touching", "late"]
+        .map(|name| (name, 0));
     let refused = [("bad-map", 1), ("empty", 1), ("bad-length", 2), ("bad-limits", 3), ("bad-order", 4), ("bad-ranges", 24)];
     for (name, wanted) in sound.into_iter().chain(refused) {
         let name = format!("{name}.spec");

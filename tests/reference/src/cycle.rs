@@ -33,19 +33,30 @@ pub fn check(spec: &Spec, pairs: &[Pair]) -> Refusal {
 
 /// Up to `laid_out` minutes every start is tried, beyond that every report.
 pub fn check_laid_out(spec: &Spec, pairs: &[Pair], laid_out: u64) -> Refusal {
+    numbered(spec, pairs, |gap| spec.allows_gap(gap), |n| least_and_most(&Cycle(pairs), n, laid_out))
+}
+
+/// "12 count 0 or above 512; 13 some gap out of range; 14 some size; 15 some R minutes too full; 16 some P minutes too thin", by
+/// whether a gap is allowed, and by the least and the most that stretches of so many minutes hold.
+pub fn numbered(
+    spec: &Spec,
+    pairs: &[Pair],
+    gap_allowed: impl Fn(u64) -> bool,
+    least_and_most: impl Fn(u64) -> (u64, u64),
+) -> Refusal {
     if pairs.is_empty() || pairs.len() > 512 {
         return 12;
     }
-    if pairs.iter().any(|p| !spec.allows_gap(p.gap.into())) {
+    if pairs.iter().any(|p| !gap_allowed(p.gap.into())) {
         return 13;
     }
     if pairs.iter().any(|p| u64::from(p.size) < spec.size.0 || u64::from(p.size) > spec.size.1) {
         return 14;
     }
-    if spec.supply.is_some_and(|(b, r)| least_and_most(&Cycle(pairs), r, laid_out).1 > b) {
+    if spec.supply.is_some_and(|(b, r)| least_and_most(r).1 > b) {
         return 15;
     }
-    if spec.demand.is_some_and(|(l, p)| least_and_most(&Cycle(pairs), p, laid_out).0 < l) {
+    if spec.demand.is_some_and(|(l, p)| least_and_most(p).0 < l) {
         return 16;
     }
     0
