@@ -36,10 +36,10 @@
  *    several threads at once are fine as long as they share no place that one of
  *    them writes. So one meter belongs to one thread at a time.
  *  - A call that checks, bills, reads or writes a cycle holds it once, unpacked,
- *    on the stack: 2,048 bytes, and with all else that it needs some 2,350, to
- *    bill it some 2,460 (measured on x86-64; tests/c/stack.c tells it of another
- *    build). A check looks at each pair a fixed number of times at most, whatever
- *    R and P are.
+ *    on the stack: 2,048 bytes, and with all else that it needs at most some
+ *    2,450 (measured on x86-64; tests/c/stack.c tells it of another build). A check
+ *    looks at each pair a fixed number of times at most, whatever R, P and the
+ *    lateness are.
  *
  * Specification file: one byte of bit map (bit 0, the lowest, size; 1 gap;
  * 2 supply; 3 demand; 4 duration; 5 second range of gaps). Then, in that order,

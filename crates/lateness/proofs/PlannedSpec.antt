@@ -3,7 +3,6 @@
 -- rates are the given ones.
 use Prim.Native.Nat.{ℕ, _+_, _-_, _*_, _^_, _≤_, _<_}
 use native.Mathlib.Omega.{arith}
-use native.Mathlib.Nat.{add-zero}
 use mathlib.Core.Path.{_≡_, refl, sym, _∙_}
 use mathlib.Core.Logic.{_↔_, _⊎_, inl, inr, ⊎-elim}
 use mathlib.Core.Bool.{true, and-eq-true-iff}
@@ -32,19 +31,20 @@ bound-fits range {lo} {hi} e h few = omega (arith, range-limits-iff 20160 lo hi 
 abbrev pub In : ℕ → ℕ → ℕ → Type 0
 In a b x = (a ≤ x) × (x ≤ b)
 
--- The first range is a to b, the second c to d, above it. Ranges that touch join, so the first then ends with d; otherwise b + 1 is in
--- neither.
+-- ranges that touch join, and others do not
+module _ (smax lo hi : ℕ) where
+  pub touching : lo ≡ smax + 1 → joinedEnd smax (RangeOf lo hi) ≡ hi
+  unfolding joinedEnd
+  touching e = rw (eq-eqb lo (smax + 1) e)
+
+  pub apart : ¬ (lo ≡ smax + 1) → joinedEnd smax (RangeOf lo hi) ≡ smax
+  unfolding joinedEnd
+  apart h = rw (ne-eqb lo (smax + 1) h)
+
+-- The first range is a to b, the second c to d, above it. Where they touch the first ends with d; otherwise b + 1 is in neither.
 module _ (a b c d : ℕ) (low : 1 ≤ a) (above : b < c) (second : c ≤ d) where
-  touching : c ≡ b + 1 → joinedEnd b (RangeOf c d) ≡ d
-  unfolding joinedEnd
-  touching e = rw (eq-eqb c (b + 1) e)
-
-  apart : ¬ (c ≡ b + 1) → joinedEnd b (RangeOf c d) ≡ b
-  unfolding joinedEnd
-  apart h = rw (ne-eqb c (b + 1) h)
-
   end-cases : ((c ≡ b + 1) × (joinedEnd b (RangeOf c d) ≡ d)) ⊎ ((b + 1 < c) × (joinedEnd b (RangeOf c d) ≡ b))
-  end-cases = ⊎-elim (λ h. inr (h, apart (λ e. omega arith))) (λ h. let e : c ≡ b + 1 = omega arith in inl (e, touching e)) (lt-cases (b + 1) c)
+  end-cases = ⊎-elim (λ h. inr (h, apart b c d (λ e. omega arith))) (λ h. let e : c ≡ b + 1 = omega arith in inl (e, touching b c d e)) (lt-cases (b + 1) c)
 
   module _ (lo hi : ℕ) (some : lo ≤ hi) where
     pub inside : ((x : ℕ) → In lo hi x → In a b x ⊎ In c d x) → ((a ≤ lo) × (hi ≤ joinedEnd b (RangeOf c d))) ⊎ ((c ≤ lo) × (hi ≤ d))
@@ -160,12 +160,15 @@ gap-on-time spec g =
       λ e. near .1 (λ x q. let z : x ≡ g = omega arith in rw z e),
     )
 
+same-minutes : (records m n : ℕ) → m ≡ n → Present records m ≡ Present records n
+same-minutes records m n e = rw e
+
 pub supply-on-time : (rate : Rate) → lateSupply 0 rate ≡ rate
 unfolding lateSupply
 supply-on-time Absent = refl
-supply-on-time (Present b r) = rw add-zero
+supply-on-time (Present b r) = same-minutes b _ r (omega arith)
 
 pub demand-on-time : (rate : Rate) → lateDemand 0 rate ≡ rate
 unfolding lateDemand
 demand-on-time Absent = refl
-demand-on-time (Present l p) = let e : p - 0 ≡ p = omega arith in rw e
+demand-on-time (Present l p) = same-minutes l _ p (omega arith)

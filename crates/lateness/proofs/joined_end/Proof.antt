@@ -1,7 +1,8 @@
 -- `joined_end` meets its contract, by cases: no second range, one that touches the first, one that does not.
+use mathlib.Core.Path.{sym}
 use borrow.Author.Needs.{needs}
-use borrow.Author.Tests.{eq-eqb, ne-eqb}
 use Rattle.lateness.specs.PlannedSpec.{joinedEnd}
+use Rattle.lateness.proofs.PlannedSpec.{touching, apart}
 use Rattle.lateness.proofs.joined_end.Statement.{statement}
 use Rattle.lateness.proofs.joined_end.Tie as tie
 
@@ -19,12 +20,10 @@ unfolding joinedEnd
 returns c = cc
 
 returns-2 : tie.Need-returns-2
-unfolding joinedEnd
-returns-2 c = rw (c .before .before .second .given .1, eq-eqb _ _ (c .if1 .taken))
+returns-2 c = rw (c .before .before .second .given .1) (sym (touching _ _ _ (c .if1 .taken)))
 
 returns-3 : tie.Need-returns-3
-unfolding joinedEnd
-returns-3 c = rw (c .before .before .second .given .1, ne-eqb _ _ (c .if1 .left))
+returns-3 c = rw (c .before .before .second .given .1) (sym (apart _ _ _ (c .if1 .left)))
 
 pub joined-end-spec : {M : Type 1} → statement M
 joined-end-spec = tie.close (tie.spec enum-told enum-known-second add-if1 returns returns-2 returns-3)
