@@ -2,8 +2,8 @@
 // endless repetition with two ends that only go forward, and counts whole rounds by a product, so its work is linear in the
 // number of pairs however short a round is (`stretches`). No pair is written anywhere: the stretches lie on the one round that is lent.
 // A cycle whose reports may be late (26 after 24) gets the same check, against the specification that its planned minutes must meet (the
-// crate `lateness`). What pairs are is the crate `pairs`', their file another's; the C calls over a lent list of pairs, of which one unpacks it and
-// calls `check_late_file`, are exported by `maxeltu`.
+// crate `lateness`). What pairs are is the crate `pairs`', their file another's; the C calls over a lent list of pairs, of which one
+// unpacks it and calls `check_late_file`, are exported by `maxeltu`.
 mod stretches;
 
 use lateness::Planned;

@@ -16,7 +16,7 @@ ghost use Rattle.lateness.specs.PlannedSpec.{joinedEnd, shortened, plann
 // The most minutes that a report may be late.
 pub const MOST_LATE: u32 = 1440;
 
-// What planned minutes must meet, or the number of the refusal.
+// A specification for planned minutes, or the number of a refusal.
 pub enum Planned {
     Against(Spec),
     Refused(u32),
@@ -40,6 +40,7 @@ fn joined_end(smax: u16, second: Range) -> u16
     }
 }
 
+// A range without its first and its last `lateness` numbers; where it has no more than these, one that has none.
 fn shortened(range: Range, lateness: u16) -> Range
     requires { ⌜ (rangeLimits 20160 range ≡ true) × (lateness ≤ 1440) ⌝ }
     ensures { λ r. ⌜ r ≡ shortened lateness range ⌝ }
@@ -53,6 +54,7 @@ fn shortened(range: Range, lateness: u16) -> Range
     }
 }
 
+// R minutes can hold what R + J planned minutes hold, and P minutes as little as P - J.
 fn late_supply(rate: Rate, lateness: u16) -> Rate
     requires { ⌜ (rateLimits rate ≡ true) × (lateness ≤ 1440) ⌝ }
     ensures { λ r. ⌜ r ≡ lateSupply lateness rate ⌝ }
@@ -98,6 +100,7 @@ fn planned_spec(spec: Spec, lateness: u16) -> Spec
     }
 }
 
+// What planned minutes must meet for a lateness, or the refusal 3, 4, 24 or 26.
 pub fn planned_for(spec: Spec, lateness: u32) -> Planned
     ensures { λ r. ⌜ r ≡ plannedFor spec lateness ⌝ }
 {

@@ -1,4 +1,5 @@
 -- `joined_end` meets its contract, by cases: no second range, one that touches the first, one that does not.
+use native.Mathlib.Omega.{arith}
 use mathlib.Core.Path.{sym}
 use borrow.Author.Needs.{needs}
 use Rattle.lateness.specs.PlannedSpec.{joinedEnd}
@@ -20,10 +21,10 @@ unfolding joinedEnd
 returns c = cc
 
 returns-2 : tie.Need-returns-2
-returns-2 c = rw (c .before .before .second .given .1) (sym (touching _ _ _ (c .if1 .taken)))
+returns-2 c = let equal = c .if1 .taken in rw (c .before .before .second .given .1) (sym (touching _ _ _ (omega (arith, equal))))
 
 returns-3 : tie.Need-returns-3
-returns-3 c = rw (c .before .before .second .given .1) (sym (apart _ _ _ (c .if1 .left)))
+returns-3 c = let other = c .if1 .left in rw (c .before .before .second .given .1) (sym (apart _ _ _ (λ e. other (omega (arith, e)))))
 
 pub joined-end-spec : {M : Type 1} → statement M
 joined-end-spec = tie.close (tie.spec enum-told enum-known-second add-if1 returns returns-2 returns-3)
