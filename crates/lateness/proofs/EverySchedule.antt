@@ -4,7 +4,7 @@
 use Prim.Native.Nat.{ℕ, _+_, _-_, _*_, _≤_, _<_}
 use native.Mathlib.Omega.{arith}
 use native.Mathlib.Nat.{le-trans}
-use mathlib.Core.Path.{_≡_, refl, sym, _∙_}
+use mathlib.Core.Path.{_≡_, sym, _∙_}
 use mathlib.Core.Logic.{_↔_}
 use mathlib.Core.Bool.{true, false, and-eq-true-iff}
 use Rattle.numbers.proofs.All.{all-right, some-fails}
@@ -15,7 +15,7 @@ use Rattle.spec.specs.Limits.{rateLimits, IsAccepted, sizeAllowed, gapAllowed}
 use Rattle.spec.proofs.Facts.{leb-iff, facts, gap-allowed-pos}
 use Rattle.schedule.specs.Schedules.{Schedule, stretch}
 use Rattle.schedule.specs.Timed.{timedStretch, timedGap}
-use Rattle.schedule.specs.Rules.{SizesAllowed, GapsAllowed, SupplyKept, DemandMet, Obeys, TimedObeys, GapBroken, TooFull, TooThin}
+use Rattle.schedule.specs.Rules.{GapsAllowed, SupplyKept, DemandMet, Obeys, TimedObeys, GapBroken, TooFull, TooThin}
 use Rattle.lateness.specs.Delays.{UpTo, EveryDelay, SomeDelay}
 use Rattle.lateness.specs.Lateness.{lateGapAllowed, lateSupply, lateDemand}
 use Rattle.lateness.specs.PlannedSpec.{plannedSpec}

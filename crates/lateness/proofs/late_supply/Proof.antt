@@ -1,5 +1,4 @@
 -- `late_supply` meets its contract, by whether there is a rate; R of a rate in its limits leaves room for J.
-use native.Mathlib.Omega.{arith}
 use borrow.Author.Needs.{needs}
 use Rattle.lateness.specs.Lateness.{lateSupply}
 use Rattle.lateness.proofs.PlannedSpec.{minutes-fit}

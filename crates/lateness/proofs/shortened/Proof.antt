@@ -1,5 +1,4 @@
 -- `shortened` meets its contract, by whether there is a range; bounds in their limits leave room for J.
-use native.Mathlib.Omega.{arith}
 use borrow.Author.Needs.{needs}
 use Rattle.lateness.specs.PlannedSpec.{shortened}
 use Rattle.lateness.proofs.PlannedSpec.{bound-fits}
