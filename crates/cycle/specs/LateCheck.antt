@@ -16,7 +16,7 @@ use Rattle.pairs.specs.Pairs.{countIn}
 use Rattle.cycle.specs.Cycles.{pairGap}
 use Rattle.cycle.specs.Check.{sizesAllowed, supplyKept, demandMet, firstRefusal}
 
--- not 13
+-- not 13: of each pair "every gap from J less to J more than the planned one" is allowed
 unfoldable pub lateGapsAllowed : Spec → ℕ → List Pair → Bool
 lateGapsAllowed spec lateness ps = all (λ j. lateGapAllowed spec lateness (pairGap ps j)) (length ps)
 

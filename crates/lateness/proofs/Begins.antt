@@ -3,7 +3,7 @@
 use Prim.Native.Nat.{ℕ, _≤_, _<_}
 use native.Mathlib.Omega.{arith}
 use mathlib.Core.Path.{_≡_, sym, _∙_, ap}
-use mathlib.Core.Logic.{_↔_, _⊎_, inl, inr, ⊎-elim}
+use mathlib.Core.Logic.{_↔_, ⊎-elim}
 use borrow.Author.Tests.{le-leb, lt-leb}
 use Rattle.numbers.proofs.Cases.{lt-cases}
 use Rattle.spec.specs.declared.Spec.{Spec}
@@ -46,15 +46,6 @@ module _ (spec : Spec) (lateness : ℕ) where
         (none-or (specNumber spec)),
     λ h. begins-26 (h .0) (h .1),
   )
-
-  -- and no other number is between 4 and 24
-  pub begins-few : ¬ (latenessNumber spec lateness ≡ 0) → (latenessNumber spec lateness ≤ 4) ⊎ (24 ≤ latenessNumber spec lateness)
-  begins-few some =
-      ⊎-elim
-      (λ accepted.
-      ⊎-elim (λ h. inr (omega (arith, begins-26 accepted h))) (λ h. absurd (some (begins-0 accepted h))) (lt-cases 1440 lateness))
-      (λ refused. ⊎-elim (λ h. inl (omega (arith, begins-refused refused))) (λ h. inr (omega (arith, begins-refused refused))) (number-few spec refused))
-      (none-or (specNumber spec))
 
   -- what is handed on, and back from it
   pub for-refused : ¬ IsAccepted spec → plannedFor spec lateness ≡ Refused (specNumber spec)

@@ -1,5 +1,6 @@
--- The specification that planned minutes must meet, so that the given one is met however the reports are delayed: `late-planned` of the
--- demands' page says so of every schedule, and `late-gap-near` that it allows just the gaps g of which all from g - J to g + J are allowed.
+-- Document 02, Req 09, as one specification: what planned minutes must meet, so that the given one is met "however each report is delayed".
+-- `late-planned` of the demands' page says so of every schedule, and `late-gap-near` that it allows just the gaps g of which all from g - J
+-- to g + J are allowed.
 use Prim.Native.Nat.{ℕ, _+_, _-_}
 use mathlib.Core.Bool.{cond}
 use lib.Dec.{eqb}
@@ -32,5 +33,6 @@ plannedSpec spec lateness = record {
   second = shortened lateness (spec .second);
 }
 
+-- that specification, after 3, 4, 24 and 26
 unfoldable pub plannedFor : Spec → ℕ → Planned
 plannedFor spec lateness = ifLate spec lateness (Against (plannedSpec spec lateness)) Refused
