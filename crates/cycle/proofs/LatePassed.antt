@@ -10,13 +10,13 @@ use mathlib.Core.Bool.{Bool, true, false}
 use lib.ListN.{length}
 use Rattle.numbers.proofs.All.{some-fails}
 use Rattle.spec.specs.declared.Rate.{Rate}
-use Rattle.spec.specs.declared.Rate.the-variants.{Absent, Present}
 use Rattle.spec.specs.declared.Spec.{Spec}
 use Rattle.spec.specs.Limits.{IsAccepted, rateLimits, sizeAllowed}
 use Rattle.spec.proofs.Facts.{facts}
 use Rattle.spec.proofs.GoingOn.{none-or}
 use Rattle.schedule.specs.Timed.{timedStretch, timedGap}
 use Rattle.schedule.specs.Rules.{SizesAllowed, GapsAllowed, SupplyKept, DemandMet, TimedObeys, SizeBroken, GapBroken, TooFull, TooThin}
+use Rattle.schedule.proofs.Rules.{not-both, not-kept, not-met}
 use Rattle.lateness.specs.Delays.{EveryDelay, SomeDelay}
 use Rattle.lateness.specs.Lateness.{lateGapAllowed, lateSupply, lateDemand, latenessNumber}
 use Rattle.lateness.proofs.Begins.{begins-0, begins-26, begins-iff, begins-26-iff}
@@ -46,18 +46,6 @@ module _ {Holds Breaks : Type 0} where
   failed : (test : Bool) → Decides test Holds Breaks → Breaks → test ≡ false
   failed true d h = absurd (d .apart (d .passes refl) h)
   failed false d h = refl
-
-not-both : (b : Bool) → b ≡ true → b ≡ false → ⊥
-not-both b p q = absurd (let z : _≡_ {A = ℕ} 0 1 = cc in omega arith)
-
--- a rate is not kept where it is broken
-not-kept : (rate : Rate) (held : ℕ → ℕ → ℕ) → SupplyKept rate held → TooFull rate held → ⊥
-not-kept Absent held kept full = full
-not-kept (Present b r) held kept full = omega (arith, kept (full .0), full .1)
-
-not-met : (rate : Rate) (held : ℕ → ℕ → ℕ) → DemandMet rate held → TooThin rate held → ⊥
-not-met Absent held met thin = thin
-not-met (Present l p) held met thin = omega (arith, met (thin .0), thin .1)
 
 module _ (spec : Spec) (lateness : ℕ) (ps : List Pair) (some : 1 ≤ length ps) where
   gaps-decided : Decides (lateGapsAllowed spec lateness ps)

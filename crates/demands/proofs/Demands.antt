@@ -1,6 +1,6 @@
 -- All three demands, each from the crate that proves it. New here is the loader's call: by what the two files are read to, its number is
 -- 0 only where both are read and the check's number is 0.
-use Prim.Native.Nat.{ℕ, _≤_, _<_}
+use Prim.Native.Nat.{ℕ, _*_, _≤_, _<_}
 use native.Mathlib.Omega.{arith}
 use mathlib.Core.Path.{_≡_, refl}
 use mathlib.Core.Logic.{_⊎_, inl, inr, ⊎-elim}
@@ -20,20 +20,22 @@ use Rattle.plan.specs.declared.Plan.{Plan}
 use Rattle.plan.specs.declared.Reported.the-variants.{At}
 use Rattle.plan.specs.Plans.{proper, run}
 use Rattle.plan.specs.Reports.{reportOf}
-use Rattle.schedule.proofs.Sums.{block, sum-whole}
+use Rattle.schedule.proofs.Sums.{block, sum-block, sum-whole}
+use Rattle.schedule.proofs.Rules.{breaks-not-obeys}
 use Rattle.schedule.proofs.StretchSum.{stretch-is-sum}
 use Rattle.schedule.proofs.Timed.{timed-sum, planned-stretch, planned-obeys}
 use Rattle.lateness.proofs.Delays.{delayed-later}
 use Rattle.lateness.proofs.PlannedSpec.{near-gap}
 use Rattle.lateness.proofs.EverySchedule.{late-planned}
 use Rattle.schedule.proofs.Moments.{reports-least}
-use Rattle.plan.proofs.Runs.{report-0-fullest, front-fullest, row-range, row-total}
+use Rattle.plan.proofs.Runs.{report-0-fullest, front-fullest, row-range, row-total, rows-total}
 use Rattle.plan.proofs.ThereAndBack.{last-exact, nearest-exact, there-and-back, between-exact, counts-add-up}
 use Rattle.consistency.proofs.Conditions.{consistency-25}
 use Rattle.families.proofs.Schedules.{required-is-most, available-is-least, schedule-25}
 use Rattle.feasibility.proofs.Theorems.{test-passes, test-finds, test-sound, test-numbers, test-25}
 use Rattle.feasibility.proofs.Needed.{fourth-needed}
-use Rattle.even.proofs.EvenPlans.{even-plan-obeys, even-plan-longest, even-plan-refused}
+use Rattle.even.proofs.EvenPlans.{even-plan-obeys, even-plan-longest, even-plan-refused, even-plan-own, even-plan-least}
+use Rattle.even.proofs.ReportZero.{report-0-thinner}
 use Rattle.pairs.specs.declared.Pair.{Pair}
 use Rattle.cycle.specs.Cycles.{cycleRun}
 use Rattle.cycle.proofs.CyclesPassed.{passed-obeys}
@@ -170,8 +172,13 @@ demands = record {
   late-less = late-less;
   test-obeys = test-sound;
   even-obeys = even-plan-obeys;
-  even-longest = even-plan-longest;
   even-refused = even-plan-refused;
+  even-least = λ s p given sizes obeys j i some.
+      rw (sum-block (run p .size) (j * p .count), rows-total p (even-plan-obeys s p given .0) j 0) (even-plan-least s p given sizes obeys j i some);
+  least-met = λ s p given. (even-plan-own s p given, rows-total p (even-plan-obeys s p given .0));
+  report-0-thinner = report-0-thinner;
+  even-longest = even-plan-longest;
+  breaks-not-obeys = breaks-not-obeys;
   verdict-exact = λ spec cycle. (zero-loaded spec cycle (spec-is-read spec), loaded-zero spec cycle);
   verdict-passes-on = passes-on;
 }

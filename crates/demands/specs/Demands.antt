@@ -19,7 +19,7 @@ use Rattle.spec.specs.File.{readSpec}
 use Rattle.schedule.specs.Schedules.{Schedule, sum, InRounds, minute, stretch, inStretch, share}
 use Rattle.schedule.specs.Moments.{IsLast, IsNearest, counted}
 use Rattle.schedule.specs.Timed.{Timed, timedShare, timedStretch, timedGap, planned}
-use Rattle.schedule.specs.Rules.{SizesAllowed, GapsAllowed, SupplyKept, Obeys, TimedObeys, SizeBroken, GapBroken, TooFull, TooThin}
+use Rattle.schedule.specs.Rules.{SizesAllowed, GapsAllowed, SupplyKept, Obeys, TimedObeys, SizeBroken, GapBroken, TooFull, TooThin, Breaks}
 use Rattle.lateness.specs.Delays.{delayed, EveryDelay, SomeDelay}
 use Rattle.lateness.specs.PlannedSpec.{plannedSpec}
 use Rattle.plan.specs.declared.Kind.the-variants.{Even}
@@ -224,10 +224,23 @@ pub record Demands : Type 0 where
   pub test-obeys : (s : Spec) (p : Plan) (v : ℕ) → testOf s ≡ Passed p v → (proper p ≡ true) × Obeys s (run p)
   -- and so does that of every even plan
   pub even-obeys : (s : Spec) (p : Plan) → evenPlan s ≡ Found p → (proper p ≡ true) × Obeys s (run p)
-  -- which has the longest gap: at every longer one each endless list of sizes breaks a rule
-  pub even-longest : (s : Spec) (p : Plan) → evenPlan s ≡ Found p → (g : ℕ) → p .period / p .count < g → (sizes : ℕ → ℕ) → ¬ Obeys s (evenly g sizes)
   -- the even plan is refused exactly when every schedule with one gap breaks a rule, whatever the gap and whatever the endless list of sizes
   pub even-refused : (s : Spec) → IsAccepted s → (evenPlan s ≡ Refused 10) ↔ ((g : ℕ) (sizes : ℕ → ℕ) → ¬ Obeys s (evenly g sizes))
+  -- The even plan sends least (document 02, Req 10). For every endless list of sizes which obeys the rules at the plan's gap, which is π/k, and for
+  -- every number j, any j × k reports in a row that don't include report 0 hold at least as many records as the plan sends in j rounds.
+  pub even-least : (s : Spec) (p : Plan) → evenPlan s ≡ Found p → (sizes : ℕ → ℕ) → Obeys s (evenly (p .period / p .count) sizes) → (j i : ℕ) → 1 ≤ i
+      → sum (run p .size) (j * p .count) ≤ sum (λ n. sizes (i + n)) (j * p .count)
+  -- That is met: the plan's own sizes are a list which obeys at its gap, and any j × k of its reports in a row, report 0 among them or not, hold
+  -- exactly j × δ.
+  pub least-met : (s : Spec) (p : Plan) → evenPlan s ≡ Found p
+      → Obeys s (evenly (p .period / p .count) (run p .size)) × ((j i : ℕ) → sum (λ n. run p .size (i + n)) (j * p .count) ≡ j * p .total)
+  -- with report 0 it is false: of some list which obeys at the gap of some plan, the first k reports hold less than δ
+  pub report-0-thinner : (s : Spec) × (p : Plan) × (sizes : ℕ → ℕ)
+      × (evenPlan s ≡ Found p) × Obeys s (evenly (p .period / p .count) sizes) × (sum sizes (p .count) < p .total)
+  -- At every longer gap, of either range or of none, each endless list of sizes breaks one of the four rules: at an allowed gap some size is not
+  -- allowed, or some R minutes hold more than B, or some P minutes fewer than L. No schedule breaks a rule and obeys.
+  pub even-longest : (s : Spec) (p : Plan) → evenPlan s ≡ Found p → (g : ℕ) → p .period / p .count < g → (sizes : ℕ → ℕ) → Breaks s (evenly g sizes)
+  pub breaks-not-obeys : (s : Spec) (t : Schedule) → Breaks s t → ¬ Obeys s t
   -- the loader's call gives 0 exactly when both files are read and the cycle's endless run obeys the specification's rules
   pub verdict-exact : (spec cycle : List ℕ)
       → (verdictOf spec cycle ≡ 0)

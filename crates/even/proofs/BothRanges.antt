@@ -19,7 +19,7 @@ fails-then : (b c : Bool) → (b ≡ true → c ≡ false) → b && c ≡ false
 fails-then true c h = h refl
 fails-then false c h = refl
 
-second-fails : (b c : Bool) → b && c ≡ false → b ≡ true → c ≡ false
+pub second-fails : (b c : Bool) → b && c ≡ false → b ≡ true → c ≡ false
 second-fails true c e h = e
 second-fails false c e h = absurd (let z : _≡_ {A = ℕ} 0 1 = cc in omega arith)
 

@@ -1,10 +1,10 @@
--- The even plan that is given is proper and obeys the rules, no longer gap has an endless list of sizes that does, and 10 is given
--- exactly where no gap has one.
-use Prim.Native.Nat.{ℕ, _/_, _≤_, _<_}
+-- The even plan that is given is proper and obeys the rules, no list of sizes that obeys at its gap sends less, at every longer gap each list breaks a
+-- rule, and 10 is given exactly where no gap has a list that obeys.
+use Prim.Native.Nat.{ℕ, _*_, _/_, _≤_, _<_}
 use native.Mathlib.Omega.{arith}
 use native.Mathlib.Nat.{le-mul-of-pos-right, mul-le-mul-right, le-trans, mul-mod-right, div-le-self, mul-comm, mul-div-cancel-left}
 use mathlib.Core.Path.{_≡_, refl, sym, _∙_, subst}
-use mathlib.Core.Logic.{_↔_, ⊎-elim}
+use mathlib.Core.Logic.{_↔_, inl, inr, ⊎-elim}
 use mathlib.Core.Bool.{Bool, true, false, cond, _&&_, and-eq-true-iff}
 use mathlib.Core.List.{List}
 use lib.Dec.{eqb}
@@ -18,7 +18,9 @@ use Rattle.spec.specs.Limits.{specNumber, IsAccepted, rateLimits, gapAllowed, g
 use Rattle.spec.specs.File.{readSpec, ifRead}
 use Rattle.spec.proofs.GoingOn.{goes-on, went-on}
 use Rattle.spec.proofs.Facts.{facts, leb-iff, gap-allowed-pos, gap-allowed-top, gap-top-high}
-use Rattle.schedule.specs.Rules.{Obeys}
+use Rattle.schedule.specs.Rules.{Obeys, Breaks}
+use Rattle.schedule.proofs.Sums.{block}
+use Rattle.schedule.proofs.Rules.{breaks-not-obeys}
 use Rattle.numbers.proofs.Cases.{lt-cases}
 use Rattle.plan.specs.declared.Plan.{Plan}
 use Rattle.plan.specs.Plans.{proper, run, kindRun}
@@ -27,7 +29,9 @@ use Rattle.even.specs.declared.EvenPlan.the-variants.{Found, Refused}
 use Rattle.even.specs.Even.{evenGap, evenPlan, planOr10, evenPlanAt, evenOf, fits, countAt, evenly}
 use Rattle.even.specs.Statements.{EvenPlanGiven}
 use Rattle.even.proofs.Search.{Largest, largest-right}
-use Rattle.even.proofs.EvenFits.{sizesAt, fits-holds, fits-obeys, obeys-fits}
+use Rattle.even.proofs.BothRanges.{second-fails}
+use Rattle.even.proofs.Broken.{rows-least, unfit-breaks}
+use Rattle.even.proofs.EvenFits.{sizesAt, fits-holds, fits-obeys}
 use Rattle.even.proofs.Cases.{plan-none, plan-some}
 
 -- What is known where a plan is given, or 10 to an accepted specification.
@@ -60,14 +64,13 @@ gap-search s = largest-right (λ g. gapAllowed s g && fits s g) (gapTop s)
 gap-right : (s : Spec) → ¬ (evenGap s ≡ 0) → (gapAllowed s (evenGap s) ≡ true) × (fits s (evenGap s) ≡ true)
 gap-right s h = and-eq-true-iff _ _ .0 (gap-search s .passes (omega arith) .0)
 
--- No longer gap has an endless list of sizes.
-gap-longest : (s : Spec) → IsAccepted s → (g : ℕ) → evenGap s < g → (sizes : ℕ → ℕ) → ¬ Obeys s (evenly g sizes)
-gap-longest s ok g h sizes o =
-    let allowed : gapAllowed s g ≡ true = o .gaps 0 in
-    let no : gapAllowed s g && fits s g ≡ false = gap-search s .above g h (gap-allowed-top s ok g allowed) in
-    let yes : gapAllowed s g && fits s g ≡ true = and-eq-true-iff _ _ .1 (allowed, obeys-fits s g ok allowed sizes o) in
-    let z : _≡_ {A = ℕ} 0 1 = cc in
-    omega arith
+-- At every longer gap each endless list of sizes breaks a rule: the gaps', where it is not allowed, and else another.
+gap-longest : (s : Spec) → IsAccepted s → (g : ℕ) → evenGap s < g → (sizes : ℕ → ℕ) → Breaks s (evenly g sizes)
+gap-longest s ok g h sizes = by-cases (gapAllowed s g) refl
+  where
+    by-cases : (b : Bool) → gapAllowed s g ≡ b → Breaks s (evenly g sizes)
+    by-cases false e = inl (0, e)
+    by-cases true e = inr (unfit-breaks s g (gap-allowed-pos s g ok e) sizes (second-fails _ _ (gap-search s .above g h (gap-allowed-top s ok g e)) e))
 
 -- k, π and δ at a gap that is allowed and fits
 count-most : (r : Rate) (g : ℕ) → rateLimits r ≡ true → countAt r g ≤ 20160
@@ -104,28 +107,55 @@ module _ (s : Spec) (g : ℕ) (ok : IsAccepted s) (allowed : gapAllowed s g ≡ 
   plan-at-obeys : Obeys s (run (evenPlanAt s g))
   plan-at-obeys = rw plan-at-run (fits-obeys s g ok allowed e)
 
+  -- its sizes are a list that obeys at its gap
+  plan-at-own : Obeys s (evenly (evenPlanAt s g .period / evenPlanAt s g .count) (run (evenPlanAt s g) .size))
+  unfolding evenPlanAt run kindRun
+  plan-at-own = plan-at-obeys
+
   plan-at-gap : evenPlanAt s g .period / evenPlanAt s g .count ≡ g
   unfolding evenPlanAt
   plan-at-gap = mul-div-cancel-left g (fits-holds s g ok (gap-allowed-pos s g ok allowed) e .some)
 
+  -- j × k reports in a row of any list that obeys at its gap, report 0 not among them, hold at least j × δ
+  plan-at-least : (sizes : ℕ → ℕ) → Obeys s (evenly (evenPlanAt s g .period / evenPlanAt s g .count) sizes)
+      → (j i : ℕ) → 1 ≤ i → j * evenPlanAt s g .total ≤ block sizes i (j * evenPlanAt s g .count)
+  unfolding evenPlanAt
+  plan-at-least sizes o j i some =
+      let obeys : Obeys s (evenly g sizes) = rw plan-at-gap at o in
+      rows-least s g (gap-allowed-pos s g ok allowed) sizes obeys j i some
+
+-- so what is true of the plan at such a gap is true of the plan that is given
+plan-given : (s : Spec) (p : Plan) → evenPlan s ≡ Found p → (Claim : Plan → Type 0)
+    → (IsAccepted s → gapAllowed s (evenGap s) ≡ true → fits s (evenGap s) ≡ true → Claim (evenPlanAt s (evenGap s))) → Claim p
+plan-given s p e Claim holds =
+    let r = found s p e in
+    let f = gap-right s (r .1) in
+    subst Claim (r .2) (holds (r .0) (f .0) (f .1))
+
 pub even-plan-obeys : (s : Spec) (p : Plan) → evenPlan s ≡ Found p → (proper p ≡ true) × Obeys s (run p)
 even-plan-obeys s p e =
-    let r = found s p e in
-    let f = gap-right s (r .1) in
-    subst (λ (q : Plan). (proper q ≡ true) × Obeys s (run q)) (r .2)
-    (plan-at-proper s (evenGap s) (r .0) (f .0) (f .1), plan-at-obeys s (evenGap s) (r .0) (f .0) (f .1))
+    plan-given s p e (λ q. (proper q ≡ true) × Obeys s (run q)) (λ ok allowed fit. (plan-at-proper s (evenGap s) ok allowed fit, plan-at-obeys s (evenGap s) ok allowed fit))
 
--- At every gap longer than the plan's, which is π/k, each endless list of sizes breaks a rule.
-pub even-plan-longest : (s : Spec) (p : Plan) → evenPlan s ≡ Found p → (g : ℕ) → p .period / p .count < g → (sizes : ℕ → ℕ) → ¬ Obeys s (evenly g sizes)
-even-plan-longest s p e g h =
-    let r = found s p e in
-    let f = gap-right s (r .1) in
-    let l : evenPlanAt s (evenGap s) .period / evenPlanAt s (evenGap s) .count < g = rw (← r .2) at h in
-    gap-longest s (r .0) g (omega (arith, plan-at-gap s (evenGap s) (r .0) (f .0) (f .1)))
+-- The plan's sizes are an endless list that obeys the rules at its gap, which is π/k.
+pub even-plan-own : (s : Spec) (p : Plan) → evenPlan s ≡ Found p → Obeys s (evenly (p .period / p .count) (run p .size))
+even-plan-own s p e = plan-given s p e (λ q. Obeys s (evenly (q .period / q .count) (run q .size))) (plan-at-own s (evenGap s))
+
+-- In no list that obeys there do j × k reports in a row, report 0 not among them, hold less than j × δ.
+pub even-plan-least : (s : Spec) (p : Plan) → evenPlan s ≡ Found p → (sizes : ℕ → ℕ) → Obeys s (evenly (p .period / p .count) sizes)
+    → (j i : ℕ) → 1 ≤ i → j * p .total ≤ block sizes i (j * p .count)
+even-plan-least s p e sizes =
+    plan-given s p e (λ q. Obeys s (evenly (q .period / q .count) sizes) → (j i : ℕ) → 1 ≤ i → j * q .total ≤ block sizes i (j * q .count))
+    (λ ok allowed fit. plan-at-least s (evenGap s) ok allowed fit sizes)
+
+-- At every longer gap each endless list of sizes breaks a rule.
+pub even-plan-longest : (s : Spec) (p : Plan) → evenPlan s ≡ Found p → (g : ℕ) → p .period / p .count < g → (sizes : ℕ → ℕ) → Breaks s (evenly g sizes)
+even-plan-longest s p e g =
+    plan-given s p e (λ q. q .period / q .count < g → (sizes : ℕ → ℕ) → Breaks s (evenly g sizes))
+    (λ ok allowed fit longer. gap-longest s ok g (omega (arith, plan-at-gap s (evenGap s) ok allowed fit)))
 
 pub even-plan-given : EvenPlanGiven
 even-plan-given s ok g sizes o =
-    let longest : g ≤ evenGap s = ⊎-elim (λ h. absurd (gap-longest s ok g h sizes o)) (λ h. h) (lt-cases (evenGap s) g) in
+    let longest : g ≤ evenGap s = ⊎-elim (λ h. absurd (breaks-not-obeys s _ (gap-longest s ok g h sizes) o)) (λ h. h) (lt-cases (evenGap s) g) in
     let some : ¬ (evenGap s ≡ 0) = λ z. omega (arith, gap-allowed-pos s g ok (o .gaps 0)) in
     let f = gap-right s some in (
       evenPlanAt s (evenGap s),
@@ -136,7 +166,7 @@ even-plan-given s ok g sizes o =
 -- 10 exactly when every schedule with one gap throughout breaks a rule, whatever the gap, 0 included, and whatever the sizes.
 pub even-plan-refused : (s : Spec) → IsAccepted s → (evenPlan s ≡ Refused 10) ↔ ((g : ℕ) (sizes : ℕ → ℕ) → ¬ Obeys s (evenly g sizes))
 even-plan-refused s ok = (
-  λ e g sizes o. gap-longest s ok g (omega (arith, refused s ok e, gap-allowed-pos s g ok (o .gaps 0))) sizes o,
+  λ e g sizes o. breaks-not-obeys s _ (gap-longest s ok g (omega (arith, refused s ok e, gap-allowed-pos s g ok (o .gaps 0))) sizes) o,
   λ none.
       ⊎-elim
       (λ h.

@@ -4,5 +4,7 @@ pub mod Search
 pub mod BothRanges
 pub mod Tries
 pub mod Cases
+pub mod Broken
 pub mod EvenFits
 pub mod EvenPlans
+pub mod ReportZero

@@ -1,15 +1,15 @@
 -- The endless run of a proper plan. The even kind has k dividing π, so it has no longer gap: the gaps of both kinds are those of the
 -- well-formed one. Of both, sizes and gaps repeat after k reports, which take π minutes and hold δ records; and of both the sizes are
 -- fullest, and the gaps shortest, at the start.
-use Prim.Native.Nat.{ℕ, _+_, _-_, _*_, _/_, _%_, _≤_, _<_}
+use Prim.Native.Nat.{ℕ, zero, suc, _+_, _-_, _*_, _/_, _%_, _≤_, _<_}
 use native.Mathlib.Omega.{arith}
-use native.Mathlib.Nat.{add-zero, mod-lt, div-add-mod, mul-comm, mul-add, mul-one, mul-zero, le-mul-of-pos-right, le-trans, mul-le-mul-right}
+use native.Mathlib.Nat.{add-zero, mod-lt, div-add-mod, mul-comm, mul-add, mul-one, mul-zero, zero-mul, suc-mul, le-mul-of-pos-right, le-trans, mul-le-mul-right}
 use mathlib.Core.Path.{_≡_, refl, sym, _∙_}
 use mathlib.Core.Bool.{true}
 use borrow.Author.Tests.{lt-leb, eqb-true}
 use Rattle.numbers.specs.Numbers.{ceil}
 use Rattle.schedule.specs.Schedules.{sum, minute, stretch}
-use Rattle.schedule.proofs.Sums.{sum-none, sum-more, sum-same, sum-block, sum-add, sum-again, block, block-most}
+use Rattle.schedule.proofs.Sums.{sum-none, sum-more, sum-same, sum-block, sum-add, sum-again, block, block-none, block-add, block-most}
 use Rattle.schedule.proofs.Before.{reportsBefore, before-le, stretch-before, stretch-longer}
 use Rattle.schedule.proofs.Repeats.{stretch-round, stretch-first, stretch-whole}
 use Rattle.plan.specs.declared.Kind.{Kind}
@@ -93,6 +93,11 @@ module _ (p : Plan) (ok : proper p ≡ true) where
   -- any k reports in a row hold δ
   pub row-total : (i : ℕ) → block (run p .size) i k ≡ δ
   row-total i = omega (arith, sum-add (run p .size) i k, sum-again (run p .size) k run-size-again i, run-total)
+
+  -- and any j × k hold j × δ
+  pub rows-total : (j i : ℕ) → block (run p .size) i (j * k) ≡ j * δ
+  rows-total zero i = rw (zero-mul, zero-mul, block-none)
+  rows-total (suc j) i = rw (suc-mul, suc-mul, block-add (run p .size) i (j * k) k, rows-total j i, row-total (i + j * k))
 
   pub period-total : (a : ℕ) → stretch (run p) a π ≡ δ
   period-total a = rw (run-period, run-total) at (stretch-round (run p) run-later k run-size-again run-gap-again a)

@@ -5,3 +5,4 @@ pub mod Moments
 pub mod StretchSum
 pub mod Repeats
 pub mod Timed
+pub mod Rules

@@ -5,6 +5,8 @@ use native.Mathlib.Omega.{arith}
 use native.Mathlib.Nat.{add-assoc, add-zero, zero-add, add-comm, add-right-comm, suc-mul, zero-mul, mod-add-div'}
 use native.Mathlib.Numerals.{add-one}
 use mathlib.Core.Path.{_≡_, refl, _∙_}
+use mathlib.Core.Logic.{⊎-elim}
+use Rattle.numbers.proofs.Cases.{lt-cases}
 -- for the crates above, which take it from here
 use Rattle.schedule.specs.Schedules.{sum, InRounds}
 
@@ -63,6 +65,19 @@ module _ (f : ℕ → ℕ) where
   block-part lo m n h =
       let e : n ≡ m + (n - m) = omega arith in
       rw e (omega (arith, block-add lo m (n - m)))
+
+  -- Of q blocks of n laid end to end, one is above the average where the whole is, and one below it where the whole is.
+  pub one-fuller : (b n q lo : ℕ) → q * b < block f lo (q * n) → (i : ℕ) × (b < block f i n)
+  one-fuller b n zero lo h = absurd (let k = rw (zero-mul, zero-mul, block-none lo) at h in omega arith)
+  one-fuller b n (suc q) lo h =
+      let k : q * b + b < block f lo (q * n) + block f (lo + q * n) n = rw (suc-mul, suc-mul, block-add lo (q * n) n) at h in
+      ⊎-elim (λ last. (lo + q * n, last)) (λ rest. one-fuller b n q lo (omega arith)) (lt-cases b (block f (lo + q * n) n))
+
+  pub one-thinner : (b n q lo : ℕ) → block f lo (q * n) < q * b → (j : ℕ) × (block f (lo + j) n < b)
+  one-thinner b n zero lo h = absurd (let k = rw (zero-mul, zero-mul) at h in omega arith)
+  one-thinner b n (suc q) lo h =
+      let k : block f lo (q * n) + block f (lo + q * n) n < q * b + b = rw (suc-mul, suc-mul, block-add lo (q * n) n) at h in
+      ⊎-elim (λ last. (q * n, last)) (λ rest. one-thinner b n q lo (omega arith)) (lt-cases (block f (lo + q * n) n) b)
 
 -- a sum is the block from 0 on
 pub sum-block : (f : ℕ → ℕ) (n : ℕ) → sum f n ≡ block f 0 n

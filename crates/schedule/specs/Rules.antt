@@ -3,6 +3,7 @@
 -- reports with these sizes and gaps, whose stretch of w minutes from a holds `held a w`: those of a schedule, and those at given minutes.
 use Prim.Native.Nat.{ℕ, _≤_, _<_}
 use mathlib.Core.Path.{_≡_}
+use mathlib.Core.Logic.{_⊎_}
 use mathlib.Core.Bool.{true, false}
 use Rattle.spec.specs.declared.Rate.{Rate}
 use Rattle.spec.specs.declared.Rate.the-variants.{Absent, Present}
@@ -55,3 +56,7 @@ TooFull (Present b r) held = (a : ℕ) × (b < held a r)
 abbrev pub TooThin : Rate → (ℕ → ℕ → ℕ) → Type 0
 TooThin Absent held = ⊥
 TooThin (Present l p) held = (a : ℕ) × (held a p < l)
+
+-- a schedule "breaks one of the four rules" (document 02, Req 10)
+abbrev pub Breaks : Spec → Schedule → Type 0
+Breaks spec s = GapBroken spec (s .gap) ⊎ (SizeBroken spec (s .size) ⊎ (TooFull (spec .supply) (stretch s) ⊎ TooThin (spec .demand) (stretch s)))

@@ -3,9 +3,9 @@ use Prim.Native.Nat.{ℕ, _≤_, _<_}
 use native.Mathlib.Omega.{arith}
 use mathlib.Core.Path.{_≡_, refl}
 use mathlib.Core.Logic.{_⊎_, inl, inr, _↔_, ⊎-elim}
-use mathlib.Core.Bool.{Bool, true, false, _||_, and-eq-true-iff}
+use mathlib.Core.Bool.{Bool, true, false, _||_, and-eq-true-iff, and-false}
 use lib.Dec.{leb}
-use borrow.Author.Tests.{leb-true, le-leb, ltb-true, ltb-false, le-ltb}
+use borrow.Author.Tests.{leb-true, le-leb, lt-leb, ltb-true, ltb-false, le-ltb}
 use Rattle.spec.specs.declared.Range.{Range}
 use Rattle.spec.specs.declared.Range.the-variants.{Absent as NoRange, Present as RangeOf}
 use Rattle.spec.specs.declared.Spec.{Spec}
@@ -128,6 +128,14 @@ first-range s a =
 pub size-allowed-iff : (s : Spec) (d : ℕ) → (sizeAllowed s d ≡ true) ↔ ((s .dmin ≤ d) × (d ≤ s .dmax))
 unfolding sizeAllowed
 size-allowed-iff s d = between-iff (s .dmin) (s .dmax) d
+
+pub size-below : (s : Spec) (d : ℕ) → d < s .dmin → sizeAllowed s d ≡ false
+unfolding sizeAllowed
+size-below s d h = rw (lt-leb (s .dmin) d h)
+
+pub size-above : (s : Spec) (d : ℕ) → s .dmax < d → sizeAllowed s d ≡ false
+unfolding sizeAllowed
+size-above s d h = rw (lt-leb d (s .dmax) h, and-false)
 
 -- a gap is allowed in the first range, or in the second
 pub gap-allowed-iff : (s : Spec) (g : ℕ) → (gapAllowed s g ≡ true) ↔ (((s .smin ≤ g) × (g ≤ s .smax)) ⊎ (inRange (s .second) g ≡ true))
