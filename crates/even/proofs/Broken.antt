@@ -3,9 +3,9 @@
 -- break a rule. For want of demand: k of them hold more than k × dmax, and a size is above dmax, or less than L. For want of supply: k × n of
 -- them hold more than k × B, and n in a row more than B, or less than n × δ, as above.
 -- Report 0 is left out, since the P minutes from minute 0 on may have one report more than the k that all others have.
-use Prim.Native.Nat.{ℕ, _+_, _-_, _*_, _/_, _≤_, _<_, max}
+use Prim.Native.Nat.{ℕ, _+_, _-_, _*_, _/_, _≤_, _<_}
 use native.Mathlib.Omega.{arith}
-use native.Mathlib.Nat.{mul-comm, mul-one, max-le, le-max-right}
+use native.Mathlib.Nat.{mul-comm, mul-one}
 use mathlib.Core.Path.{_≡_, refl}
 use mathlib.Core.Logic.{_⊎_, inl, inr, ⊎-elim}
 use mathlib.Core.Bool.{Bool, true, false, _&&_}
@@ -15,20 +15,19 @@ use Rattle.numbers.proofs.Cases.{lt-cases}
 use Rattle.spec.specs.declared.Rate.{Rate}
 use Rattle.spec.specs.declared.Rate.the-variants.{Absent, Present}
 use Rattle.spec.specs.declared.Spec.{Spec}
-use Rattle.spec.proofs.Facts.{size-below, size-above}
+use Rattle.spec.proofs.Facts.{size-below, size-above, gap-allowed-pos}
 use Rattle.schedule.specs.Schedules.{stretch}
 use Rattle.schedule.specs.Rules.{Obeys, SizeBroken, TooFull, TooThin}
 use Rattle.schedule.proofs.Sums.{block, block-one, one-fuller, one-thinner}
 use Rattle.schedule.proofs.Rules.{breaks-not-obeys}
 use Rattle.even.specs.Even.{countAt, totalOf, demandFits, supplyFits, fits, evenly}
+use Rattle.even.specs.Statements.{ArithmeticRight}
 use Rattle.even.proofs.OneGap.{stretch-at-report, stretch-after-report}
+use Rattle.even.proofs.EvenFits.{total-enough, total-least, sizesAt, fits-obeys}
 
 one-of-two : (b c : Bool) → b && c ≡ false → (b ≡ false) ⊎ (c ≡ false)
 one-of-two true c e = inr e
 one-of-two false c e = inl refl
-
-below-first : {x a b : ℕ} → x < max a b → b ≤ x → x < a
-below-first {x} {a} {b} h enough = elim (lt-cases x a) [ inl below ↦ below | inr above ↦ absurd (omega (arith, max-le above enough)) ]
 
 module _ (s : Spec) (g : ℕ) (pos : 0 < g) (f : ℕ → ℕ) where
   abbrev held : ℕ → ℕ → ℕ
@@ -50,11 +49,15 @@ module _ (s : Spec) (g : ℕ) (pos : 0 < g) (f : ℕ → ℕ) where
   unfolding countAt totalOf
   row-thin q Absent i some few = inl (i, size-below s (f i) (rw block-one at few))
   row-thin q (Present l p) i some few =
+      let m = p / g in
       let e : i - 1 + 1 ≡ i = omega arith in
-      let after : held ((i - 1) * g + 1) p ≡ block f i (p / g) = rw e at (stretch-after-report g pos f (i - 1) p) in
-      elim (lt-cases (block f i (p / g)) l) [
+      let after : held ((i - 1) * g + 1) p ≡ block f i m = rw e at (stretch-after-report g pos f (i - 1) p) in
+      elim (lt-cases (block f i m) l) [
         | inl thin ↦ inr (inr ((i - 1) * g + 1, rw after thin))
-        | inr enough ↦ inl (some-below (p / g) i (below-first few enough))
+        | inr enough ↦ elim (lt-cases (block f i m) (m * s .dmin)) [
+          | inl below ↦ inl (some-below m i below)
+          | inr full ↦ absurd (omega (arith, total-least l p (s .dmin) m (block f i m) full enough))
+        ]
       ]
 
   -- j × k such reports hold less than j × δ
@@ -74,14 +77,14 @@ module _ (s : Spec) (g : ℕ) (pos : 0 < g) (f : ℕ → ℕ) where
       ]
 
   demand-unfit : (q r : Rate) → demandFits r (s .dmax) (countAt r g) ≡ false → Broken q r
-  unfolding demandFits countAt totalOf
+  unfolding demandFits countAt
   demand-unfit q Absent e = absurd (let z : _≡_ {A = ℕ} 0 1 = cc in omega arith)
   demand-unfit q (Present l p) e =
       let m = p / g in
       let unfit : m * s .dmax < l = leb-false _ _ e in
       elim (lt-cases (m * s .dmax) (block f 1 m)) [
         | inl many ↦ inl (some-above m 1 many)
-        | inr few ↦ row-thin q (Present l p) 1 (omega arith) (omega (arith, le-max-right (m * s .dmin) l))
+        | inr few ↦ row-thin q (Present l p) 1 (omega arith) (omega (arith, total-enough l p (s .dmin) m))
       ]
 
   supply-unfit : (q r : Rate) → supplyFits q g (countAt r g) (totalOf r (s .dmin) (countAt r g)) ≡ false → Broken q r
@@ -99,3 +102,11 @@ module _ (s : Spec) (g : ℕ) (pos : 0 < g) (f : ℕ → ℕ) where
   pub unfit-breaks : fits s g ≡ false → Broken (s .supply) (s .demand)
   unfolding fits
   unfit-breaks e = ⊎-elim (demand-unfit (s .supply) (s .demand)) (supply-unfit (s .supply) (s .demand)) (one-of-two _ _ e)
+
+-- So at an allowed gap the arithmetic of `fits` says whether an endless list of sizes obeys.
+pub arithmetic-right : ArithmeticRight
+arithmetic-right s g ok allowed = (λ e. (sizesAt s g, fits-obeys s g ok allowed e), λ (f, obeys). by-cases f obeys (fits s g) refl)
+  where
+    by-cases : (f : ℕ → ℕ) → Obeys s (evenly g f) → (b : Bool) → fits s g ≡ b → b ≡ true
+    by-cases f obeys true e = refl
+    by-cases f obeys false e = absurd (breaks-not-obeys s (evenly g f) (inr (unfit-breaks s g (gap-allowed-pos s g ok allowed) f e)) obeys)

@@ -1,12 +1,9 @@
--- At an allowed gap the arithmetic of `fits` says whether an endless list of sizes obeys the rules.
--- From the arithmetic to the rules: the even sizes, of which n neighbours hold about n × δ / m. From the rules to the arithmetic: where it
--- fails, every list breaks a rule (proofs/Broken.antt).
-use Prim.Native.Nat.{ℕ, _*_, _/_, _≤_, _<_, max}
+-- At an allowed gap that fits an endless list of sizes obeys the rules: the even sizes, of which n neighbours hold about n × δ / m.
+use Prim.Native.Nat.{ℕ, _+_, _*_, _≤_, _<_}
 use native.Mathlib.Omega.{arith}
 use native.Mathlib.Nat.{le-trans, le-refl, zero-mul, le-max-left, le-max-right, max-le, mul-le-mul-left}
-use mathlib.Core.Path.{_≡_, refl}
-use mathlib.Core.Logic.{inr}
-use mathlib.Core.Bool.{Bool, true, false, and-eq-true-iff}
+use mathlib.Core.Path.{_≡_}
+use mathlib.Core.Bool.{true, and-eq-true-iff}
 use borrow.Author.Tests.{leb-true}
 use Rattle.spec.specs.declared.Rate.{Rate}
 use Rattle.spec.specs.declared.Rate.the-variants.{Absent, Present}
@@ -16,15 +13,31 @@ use Rattle.spec.proofs.Facts.{facts, leb-iff, size-allowed-iff, gap-allowed-pos
 use Rattle.schedule.specs.Schedules.{stretch}
 use Rattle.schedule.specs.Rules.{Obeys, SupplyKept, DemandMet}
 use Rattle.schedule.proofs.Sums.{block-part}
-use Rattle.schedule.proofs.Rules.{breaks-not-obeys}
 use Rattle.plan.specs.Plans.{evenSize}
 use Rattle.plan.proofs.EvenSizes.{even-block-most, even-block-least, even-size-most, even-size-least}
 use Rattle.even.specs.Even.{countAt, totalOf, demandFits, supplyFits, fits, evenly}
-use Rattle.even.specs.Statements.{ArithmeticRight}
 use Rattle.numbers.specs.Numbers.{ceil}
 use Rattle.numbers.proofs.Ceilings.{ceil-add-most, ceil-add-least}
 use Rattle.even.proofs.OneGap.{even-stretch}
-use Rattle.even.proofs.Broken.{unfit-breaks}
+
+-- k and δ where there is a demand rate. Any P minutes have k reports.
+pub count-fewest : (l p g : ℕ) → 0 < g → (a : ℕ) → ceil a g + countAt (Present l p) g ≤ ceil (a + p) g
+unfolding countAt
+count-fewest l p g pos a = ceil-add-least g pos a p
+
+-- δ is the least number that is neither below k × dmin nor below L
+module _ (l p dmin m : ℕ) where
+  pub total-full : m * dmin ≤ totalOf (Present l p) dmin m
+  unfolding totalOf
+  total-full = le-max-left _ _
+
+  pub total-enough : l ≤ totalOf (Present l p) dmin m
+  unfolding totalOf
+  total-enough = le-max-right _ _
+
+  pub total-least : (x : ℕ) → m * dmin ≤ x → l ≤ x → totalOf (Present l p) dmin m ≤ x
+  unfolding totalOf
+  total-least x full enough = max-le full enough
 
 -- m reports between dmin and dmax can hold δ
 pub record Holds (m δ dmin dmax : ℕ) : Type 0 where
@@ -38,10 +51,11 @@ module _ (g : ℕ) (pos : 0 < g) where
   unfolding countAt totalOf demandFits rateLimits
   holds Absent dmin dmax c h e = record { some = omega arith; low = omega arith; high = omega arith }
   holds (Present l p) dmin dmax c h e =
-      let k = simp (and-eq-true-iff, leb-iff) at c in
-      let u : l ≤ p / g * dmax = leb-true _ _ e in
-      let v : ¬ (p / g ≡ 0) = λ z. let w = rw (z, zero-mul) at u in omega arith in
-      record { some = omega arith; low = le-max-left _ _; high = max-le (mul-le-mul-left (p / g) h) u }
+      let limits = simp (and-eq-true-iff, leb-iff) at c in
+      let m = countAt (Present l p) g in
+      let can : l ≤ m * dmax = leb-true _ _ e in
+      let some : ¬ (m ≡ 0) = λ z. let none = rw (z, zero-mul) at can in omega arith in
+      record { some = omega arith; low = total-full l p dmin m; high = total-least l p dmin m (m * dmax) (mul-le-mul-left m h) can }
 
   supply-kept : (r : Rate) (m δ : ℕ) → 0 < m → supplyFits r g m δ ≡ true → SupplyKept r (stretch (evenly g (evenSize m δ)))
   unfolding supplyFits
@@ -52,14 +66,13 @@ module _ (g : ℕ) (pos : 0 < g) where
       (even-block-most m δ h b (ceil a g) (ceil r g) (leb-true _ _ e)))
 
   demand-met : (r : Rate) (dmin : ℕ) → 0 < countAt r g → DemandMet r (stretch (evenly g (evenSize (countAt r g) (totalOf r dmin (countAt r g)))))
-  unfolding countAt totalOf
   demand-met Absent dmin h = tt
   demand-met (Present l p) dmin h = λ a.
-      let m = p / g in
-      let δ = max (m * dmin) l in
+      let m = countAt (Present l p) g in
+      let δ = totalOf (Present l p) dmin m in
       rw (even-stretch g pos (evenSize m δ) a p)
-      (le-trans (le-trans (le-max-right (m * dmin) l) (even-block-least m δ h δ (ceil a g) m (le-refl _)))
-      (block-part (evenSize m δ) (ceil a g) m _ (omega (arith, ceil-add-least g pos a p))))
+      (le-trans (le-trans (total-enough l p dmin m) (even-block-least m δ h δ (ceil a g) m (le-refl _)))
+      (block-part (evenSize m δ) (ceil a g) m _ (omega (arith, count-fewest l p g pos a))))
 
 -- the even plan's sizes at a gap g
 abbrev pub sizesAt : Spec → ℕ → ℕ → ℕ
@@ -79,27 +92,15 @@ module _ (s : Spec) (g : ℕ) (ok : IsAccepted s) where
       let k = facts s ok in
       holds g pos (s .demand) (s .dmin) (s .dmax) (k .demand) (k .sizes) (fits-parts e .0)
 
-  module _ (allowed : gapAllowed s g ≡ true) where
-    pub fits-obeys : fits s g ≡ true → Obeys s (evenly g (sizesAt s g))
-    fits-obeys e =
-        let pos : 0 < g = gap-allowed-pos s g ok allowed in
-        let z = fits-holds pos e in
-        record {
-          sizes = λ i.
-              size-allowed-iff s _ .1
-              (even-size-least _ _ (z .some) (s .dmin) i (z .low), even-size-most _ _ (z .some) (s .dmax) i (z .high));
-          gaps = λ i. allowed;
-          supply = supply-kept g pos (s .supply) _ _ (z .some) (fits-parts e .1);
-          demand = demand-met g pos (s .demand) (s .dmin) (z .some);
-        }
-
-    pub obeys-fits : (f : ℕ → ℕ) → Obeys s (evenly g f) → fits s g ≡ true
-    obeys-fits f o = by-cases (fits s g) refl
-      where
-        by-cases : (b : Bool) → fits s g ≡ b → b ≡ true
-        by-cases true e = refl
-        by-cases false e = absurd (breaks-not-obeys s (evenly g f) (inr (unfit-breaks s g (gap-allowed-pos s g ok allowed) f e)) o)
-
-pub arithmetic-right : ArithmeticRight
-arithmetic-right s g ok allowed =
-    (λ e. (sizesAt s g, fits-obeys s g ok allowed e), λ w. obeys-fits s g ok allowed (w .0) (w .1))
+  pub fits-obeys : gapAllowed s g ≡ true → fits s g ≡ true → Obeys s (evenly g (sizesAt s g))
+  fits-obeys allowed e =
+      let pos : 0 < g = gap-allowed-pos s g ok allowed in
+      let z = fits-holds pos e in
+      record {
+        sizes = λ i.
+            size-allowed-iff s _ .1
+            (even-size-least _ _ (z .some) (s .dmin) i (z .low), even-size-most _ _ (z .some) (s .dmax) i (z .high));
+        gaps = λ i. allowed;
+        supply = supply-kept g pos (s .supply) _ _ (z .some) (fits-parts e .1);
+        demand = demand-met g pos (s .demand) (s .dmin) (z .some);
+      }

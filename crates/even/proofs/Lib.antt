@@ -4,7 +4,7 @@ pub mod Search
 pub mod BothRanges
 pub mod Tries
 pub mod Cases
-pub mod Broken
 pub mod EvenFits
+pub mod Broken
 pub mod EvenPlans
 pub mod ReportZero

@@ -4,7 +4,7 @@
 -- endless list of sizes." And "What each operation turns down": "10 none exists." Document 02, Req 06: "The even plan looks through both,
 -- largest gap first, and its refusal means that neither range has a gap that works."
 -- Whether a gap has such a list is said here by arithmetic, so that it computes; `ArithmeticRight` of Statements.antt, proved in
--- proofs/EvenFits.antt, says that this is the document's condition.
+-- proofs/Broken.antt, says that this is the document's condition.
 use Prim.Native.Nat.{ℕ, zero, suc, _*_, _/_, max}
 use mathlib.Core.Bool.{Bool, true, false, cond, _&&_}
 use mathlib.Core.List.{List}

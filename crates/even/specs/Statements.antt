@@ -1,4 +1,4 @@
--- What is true of the even plan beside what the demands' page says. Proved in proofs/EvenFits.antt and proofs/EvenPlans.antt.
+-- What is true of the even plan beside what the demands' page says. Proved in proofs/Broken.antt and proofs/EvenPlans.antt.
 use Prim.Native.Nat.{ℕ, _/_, _≤_}
 use mathlib.Core.Path.{_≡_}
 use mathlib.Core.Logic.{_↔_}

@@ -270,7 +270,7 @@ fn even_of_two_ranges_case(random: &mut Random, library: &mut Library) -> Verdic
 }
 
 /// A specification small enough that every list of sizes can be tried: at most 3 sizes (seldom 4), and few reports in a window.
-fn spec_for_search(random: &mut Random) -> Spec {
+pub fn spec_for_search(random: &mut Random) -> Spec {
     let (sizes, reports) = if random.once_in(50) { (4, 8) } else { (3, 7) };
     loop {
         let mut spec = generate::near_spec(random, TINY);

@@ -5,6 +5,7 @@ use crate::calls::{consistency_outcome, expected, with_condition};
 use crate::checks::HELD;
 use crate::group::{same, Counts, Met, Runner, Verdict};
 use crate::late;
+use crate::least::least_case;
 use crate::library::{Library, Outcome};
 use crate::meters::Trial;
 use crate::ring::{Meter, BYTES};
@@ -71,6 +72,12 @@ fn for_late_reports() -> Small {
     Small { sizes: vec![(1, 2)], gaps: one_range(5).chain(two_ranges(5)).collect(), records: 3, minutes: 6, cycles }
 }
 
+/// With rates of up to 6 minutes no stretch holds more than 6 reports, so that all lists of sizes can be looked at.
+fn for_lists_of_sizes() -> Small {
+    let cycles = SmallCycles { pairs: 0, gaps: 1, sizes: 1 };
+    Small { sizes: ranges(3).collect(), gaps: one_range(4).chain(two_ranges(4)).collect(), records: 6, minutes: 6, cycles }
+}
+
 /// Every first range within 1 to `most`, and no second.
 pub fn one_range(most: u64) -> impl Iterator<Item = (Range, Option<Range>)> {
     ranges(most).map(|gap| (gap, None))
@@ -132,6 +139,10 @@ pub fn all(runner: &mut Runner) {
         let (spec, pairs) = small.case(number);
         late::every_lateness(&spec, &pairs, 2, library)
     });
+    let small = for_lists_of_sizes();
+    let name = "every small specification: no list of sizes sends less than the even plan";
+    runner
+        .every(name, small.specifications(), &[0, 1, 2, 10], |number, library| least_case(&small.specification(number), library));
     runner.every("every small even plan: rows of reports", COUNTS * TOTALS, &[0, 1], row_case);
     runner.every("every small meter: every list of 4 offers", METERS * OFFERS, &[0, 13, 14, 15], offers_case);
 }

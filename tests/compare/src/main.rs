@@ -17,6 +17,7 @@ mod generate;
 mod group;
 mod late;
 mod late_edges;
+mod least;
 mod library;
 mod limits;
 mod meters;
@@ -55,6 +56,7 @@ fn main() {
             calls::reference_itself(&mut runner);
             exhaustive::all(&mut runner);
             calls::all(&mut runner);
+            least::all(&mut runner);
             moments::all(&mut runner);
             costs::all(&mut runner);
             late::all(&mut runner);

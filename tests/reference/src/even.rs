@@ -39,12 +39,86 @@ pub fn counts_fit(spec: &Spec, gap: u64) -> bool {
 /// walks a finite graph whose nodes are such windows: an endless list exists exactly if a walk from the start can come back
 /// to a node that it has passed.
 pub fn list_exists(spec: &Spec, gap: u64) -> bool {
-    let longest = spec.supply.map_or(0, |s| s.1).max(spec.demand.map_or(0, |d| d.1));
-    let search = Search { spec, gap, window: longest.div_ceil(gap) as usize + 1 };
-    search.goes_on(Node { reports: 0, last: vec![] }, &mut HashMap::new())
+    Search::at(spec, gap).goes_on(Node::default(), &mut HashMap::new())
 }
 
-#[derive(Clone, PartialEq, Eq, Hash)]
+/// Every endless list of sizes that obeys the rules at one gap: the nodes of the search's graph from which a walk can go on for ever, each
+/// with its steps to others of them.
+pub struct Lists {
+    nodes: Vec<Node>,
+    steps: Vec<Vec<Step>>,
+}
+
+/// One more report, of this size, and the node that it leads to.
+struct Step {
+    size: u64,
+    to: usize,
+}
+
+impl Lists {
+    pub fn at(spec: &Spec, gap: u64) -> Lists {
+        let search = Search::at(spec, gap);
+        let mut nodes = vec![Node::default()];
+        let mut places = HashMap::from([(Node::default(), 0)]);
+        let mut steps: Vec<Vec<Step>> = vec![];
+        while steps.len() < nodes.len() {
+            let node = nodes[steps.len()].clone();
+            let mut onward = vec![];
+            for size in spec.size.0..=spec.size.1 {
+                if let Some(next) = search.add(&node, size) {
+                    let to = *places.entry(next).or_insert_with_key(|next| {
+                        nodes.push(next.clone());
+                        nodes.len() - 1
+                    });
+                    onward.push(Step { size, to });
+                }
+            }
+            steps.push(onward);
+        }
+        let mut lists = Lists { nodes, steps };
+        lists.leave_dead_ends();
+        lists
+    }
+
+    /// Takes out the steps that lead to a node with no step, until there are none.
+    fn leave_dead_ends(&mut self) {
+        loop {
+            let ends: Vec<bool> = self.steps.iter().map(Vec::is_empty).collect();
+            let before: usize = self.steps.iter().map(Vec::len).sum();
+            self.steps.iter_mut().for_each(|onward| onward.retain(|step| !ends[step.to]));
+            if before == self.steps.iter().map(Vec::len).sum() {
+                return;
+            }
+        }
+    }
+
+    /// Whether there is any.
+    pub fn exist(&self) -> bool {
+        !self.steps[0].is_empty()
+    }
+
+    /// The least that so many reports in a row hold in any of them, the first of which is report `from`, 0 or 1, or a later one. None where
+    /// there is no list.
+    pub fn least_in_a_row(&self, from: u64, reports: u64) -> Option<u64> {
+        let starts = |at: usize| (self.nodes[at].reports >= from && !self.steps[at].is_empty()).then_some(0);
+        let mut least: Vec<Option<u64>> = (0..self.nodes.len()).map(starts).collect();
+        for _ in 0..reports {
+            let mut next = vec![None; least.len()];
+            for (onward, held) in self.steps.iter().zip(&least) {
+                let Some(held) = held else { continue };
+                for step in onward {
+                    let sum = held + step.size;
+                    next[step.to] = Some(next[step.to].map_or(sum, |other: u64| other.min(sum)));
+                }
+            }
+            least = next;
+        }
+        least.into_iter().flatten().min()
+    }
+}
+
+/// No report yet, or some.
+#[derive(Clone, Default, PartialEq, Eq, Hash)]
 struct Node {
     /// How many reports there are. From `settled` on the number itself no longer matters.
     reports: u64,
@@ -66,6 +140,11 @@ struct Search<'a> {
 }
 
 impl Search<'_> {
+    fn at(spec: &Spec, gap: u64) -> Search<'_> {
+        let longest = spec.supply.map_or(0, |s| s.1).max(spec.demand.map_or(0, |d| d.1));
+        Search { spec, gap, window: longest.div_ceil(gap) as usize + 1 }
+    }
+
     /// Whether a walk from this node comes back to a node that is on the way to it.
     fn goes_on(&self, node: Node, marks: &mut HashMap<Node, Mark>) -> bool {
         match marks.get(&node) {
