@@ -252,6 +252,11 @@ uint32_t maxeltu_test(const uint8_t *spec, size_t spec_len,
  * endless list of sizes that obeys the rules.
  * Writes *k, *period and *total, a plan of the even kind. Its gap is
  * *period / *k minutes.
+ *
+ * It sends least: any *k of its reports in a row hold *total records, and in no
+ * list of sizes that obeys the rules at this gap do j * *k reports in a row hold
+ * fewer than j * *total, unless report 0 is among them. At every longer gap each
+ * list of sizes breaks a rule.
  */
 uint32_t maxeltu_even_plan(const uint8_t *spec, size_t spec_len,
                            uint32_t *k, uint32_t *period, uint32_t *total);

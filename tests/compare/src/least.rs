@@ -4,6 +4,7 @@ use crate::calls::spec_for_search;
 use crate::checks::{both_rates, demand_only, no_rates, supply_only, HELD};
 use crate::group::{Runner, Verdict, RUNS};
 use crate::library::Library;
+use crate::samples;
 use reference::even::Lists;
 use reference::{spec, Spec};
 
@@ -17,13 +18,13 @@ pub fn all(runner: &mut Runner) {
 /// What the thinnest row of some reports holds, in any list that obeys at the gap, where it may begin with report 0 and where it may not.
 fn rows_by_hand(runner: &mut Runner) {
     let mut checks = vec![];
-    let late_start = demand_only((1, 3), (5, 5), (3, 7));
+    let thin_start = samples::thin_start();
     let whole_gaps = both_rates((2, 3), (5, 5), (15, 26), (10, 20));
     for (name, spec, reports, with_0, without_0) in [
         // The first 7 minutes have two reports, so that report 0 need not hold 3 records; every later 7 may have one alone.
-        ("P of a gap and a part", &late_start, 1, 1, 3),
-        ("P of a gap and a part, two reports", &late_start, 2, 4, 6),
-        ("P of a gap and a part, seven reports", &late_start, 7, 19, 21),
+        ("P of a gap and a part", &thin_start, 1, 1, 3),
+        ("P of a gap and a part, two reports", &thin_start, 2, 4, 6),
+        ("P of a gap and a part, seven reports", &thin_start, 7, 19, 21),
         // Where P is a multiple of the gap, 20 minutes have four reports wherever they begin.
         ("sample B with 15, a round", &whole_gaps, 4, 10, 10),
         ("sample B with 15, three rounds", &whole_gaps, 12, 30, 30),

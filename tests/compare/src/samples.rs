@@ -1,8 +1,8 @@
 //! The samples of document 01, starred or not, through the library and through the reference, and the files in samples/. The sizes of
 //! even plans are those of document 02, Req 02, the meter is that of Req 03, the van of two shifts that of Req 06, the prices are those
-//! of Req 08, and the reports that arrive late those of Req 09.
+//! of Req 08, the reports that arrive late those of Req 09, and the first report that may be thinner that of Req 10.
 
-use crate::checks::{self, both_rates, pairs_of, with_second, Checks, Offer};
+use crate::checks::{self, both_rates, demand_only, pairs_of, with_second, Checks, Offer};
 use crate::group::Runner;
 use reference::feasibility::Failure::{Inconsistent, Refused};
 use reference::{cycle, even, file, schedule, spec, Pair, Plan, Spec};
@@ -25,6 +25,11 @@ fn one_shift() -> Spec {
     both_rates((1, 10), (5, 15), (22, 60), (8, 90))
 }
 
+/// The fleet of samples/least.spec.
+pub fn thin_start() -> Spec {
+    demand_only((1, 3), (5, 5), (3, 7))
+}
+
 /// The pairs of samples/shift-good.cycle and samples/shift-between.cycle.
 const SHIFT_GOOD: [(u16, u16); 5] = [(15, 5), (15, 5), (5, 4), (90, 8), (60, 8)];
 const SHIFT_BETWEEN: [(u16, u16); 3] = [(15, 8), (30, 4), (90, 8)];
@@ -43,6 +48,7 @@ pub fn all(runner: &mut Runner) {
         samples_c_d_e(checks);
         sample_f(checks);
         two_shifts(checks);
+        least_sent(checks);
     });
     checks::group(runner, "samples of plans, from a minute back to the report", minutes);
     checks::group(runner, "samples of plans and cycles, what they cost", costs);
@@ -168,7 +174,7 @@ fn late(checks: &mut Checks) {
 }
 
 fn meters(checks: &mut Checks) {
-    let sound = ["a", "a28", "b", "b14", "b15", "c", "d", "e", "f", "f15", "f-no-demand", "shift", "touching", "late"]
+    let sound = ["a", "a28", "b", "b14", "b15", "c", "d", "e", "f", "f15", "f-no-demand", "shift", "touching", "late", "least"]
         .map(|name| (name, 0));
     let refused = [("bad-map", 1), ("empty", 1), ("bad-length", 2), ("bad-limits", 3), ("bad-order", 4), ("bad-ranges", 24)];
     for (name, wanted) in sound.into_iter().chain(refused) {
@@ -301,4 +307,19 @@ fn two_shifts(checks: &mut Checks) {
     let too_low = spec::write(&with_second(&one_shift, (15, 90)));
     checks.file("bad-ranges.spec", &too_low);
     checks.refused("a second range from smax", &too_low, 24);
+}
+
+/// A list of sizes that obeys at the even plan's gap with a first report of 1 record, where the plan sends 3; from report 1 on none sends less.
+fn least_sent(checks: &mut Checks) {
+    let spec = thin_start();
+    checks.file("least.spec", &[0x0B, 0, 1, 0, 3, 0, 5, 0, 5, 0, 3, 0, 7]);
+    checks.file("least.spec", &spec::write(&spec));
+    checks.even("least.spec", &spec, Ok([5, 1, 3]));
+    reports(checks, "least.spec, even", checks::even(1, 5, 3), &[(0, 3), (5, 3), (10, 3)]);
+    checks.cycle("least.spec, 3 each", &spec, &[(5, 3)], 0);
+    // Only the endless list may have a thin first report: a cycle comes back to it.
+    checks.cycle("least.spec, 1 and 3", &spec, &[(5, 1), (5, 3)], 16);
+    let lists = even::Lists::at(&spec, 5);
+    checks.holds("reference, report 0 of 1", lists.least_in_a_row(0, 1) == Some(1));
+    checks.holds("reference, every other of 3", lists.least_in_a_row(1, 1) == Some(3));
 }
