@@ -1,5 +1,6 @@
 //! Every specification with small numbers, of one range of gaps and of two, for each of them every short cycle, also one whose reports
-//! may arrive late; every short list of offers to every small meter; and every small even plan: nothing here is left to chance.
+//! may arrive late, and every list of sizes at the gap of its even plan and at longer ones; every short list of offers to every small
+//! meter; and every small even plan: nothing here is left to chance.
 
 use crate::calls::{consistency_outcome, expected, with_condition};
 use crate::checks::HELD;
@@ -72,7 +73,7 @@ fn for_late_reports() -> Small {
     Small { sizes: vec![(1, 2)], gaps: one_range(5).chain(two_ranges(5)).collect(), records: 3, minutes: 6, cycles }
 }
 
-/// With rates of up to 6 minutes no stretch holds more than 6 reports, so that all lists of sizes can be looked at.
+/// With rates of up to 6 minutes no stretch holds more than 6 reports, so that all lists of sizes can be looked at. No cycle is asked.
 fn for_lists_of_sizes() -> Small {
     let cycles = SmallCycles { pairs: 0, gaps: 1, sizes: 1 };
     Small { sizes: ranges(3).collect(), gaps: one_range(4).chain(two_ranges(4)).collect(), records: 6, minutes: 6, cycles }

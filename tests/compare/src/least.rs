@@ -50,17 +50,21 @@ fn rows_by_hand(runner: &mut Runner) {
 const ROUNDS: u64 = 3;
 
 /// No list that obeys at the gap of the library's plan has j × k reports in a row, report 0 not among them, that hold fewer records than j × δ;
-/// and those of the plan hold just as many, wherever they begin. (That no list obeys at a longer gap is asked where the plan itself is compared,
-/// "size lists searched".) It counts as 0 where k = 1, 1 where k is more, 2 where rows with report 0 may hold less, and 10 where there is no plan.
+/// those of the plan hold just as many, wherever they begin; and at every longer gap no list obeys. It counts as 0 where k = 1, 1 where k is more, 2
+/// where rows with report 0 may hold less, and 10 where there is no plan.
 pub fn least_case(spec: &Spec, library: &mut Library) -> Verdict {
-    let even = library.even_plan(&spec::write(spec), [HELD; 3]);
+    let even = library.even_plan(&spec::write(spec), [0; 3]);
+    let [k, period, total] = even.places.map(u64::from);
+    let gap = if even.answer == 0 { period / k } else { 0 };
+    if let Some(longer) = spec.gaps().take_while(|&longer| longer > gap).find(|&longer| Lists::at(spec, longer).exist()) {
+        return Err(format!("the answer is {} with gap {gap}, and a list obeys at {longer}: {spec:?}", even.answer));
+    }
     if even.answer != 0 {
         return Ok(even.answer);
     }
-    let [k, period, total] = even.places.map(u64::from);
     let sizes: Vec<u64> =
         (0..(ROUNDS + 2) * k).map(|i| library.report(1, even.places, i as u32, [HELD; 3]).places[2].into()).collect();
-    let lists = Lists::at(spec, period / k);
+    let lists = Lists::at(spec, gap);
     for j in 0..=ROUNDS {
         let least = lists.least_in_a_row(1, j * k);
         if least != Some(j * total) {
