@@ -21,13 +21,13 @@ use Rattle.numbers.proofs.Ceilings.{ceil-add-most, ceil-add-least}
 use Rattle.even.proofs.OneGap.{even-stretch}
 
 -- k and δ where there is a demand rate. Any P minutes have k reports.
-pub count-fewest : (l p g : ℕ) → 0 < g → (a : ℕ) → ceil a g + countAt (Present l p) g ≤ ceil (a + p) g
+count-fewest : (l p g : ℕ) → 0 < g → (a : ℕ) → ceil a g + countAt (Present l p) g ≤ ceil (a + p) g
 unfolding countAt
 count-fewest l p g pos a = ceil-add-least g pos a p
 
 -- δ is the least number that is neither below k × dmin nor below L
 module _ (l p dmin m : ℕ) where
-  pub total-full : m * dmin ≤ totalOf (Present l p) dmin m
+  total-full : m * dmin ≤ totalOf (Present l p) dmin m
   unfolding totalOf
   total-full = le-max-left _ _
 

@@ -66,7 +66,7 @@ module _ (f : ℕ → ℕ) where
       let e : n ≡ m + (n - m) = omega arith in
       rw e (omega (arith, block-add lo m (n - m)))
 
-  -- Of q blocks of n laid end to end, one is above the average where the whole is, and one below it where the whole is.
+  -- of q blocks of n laid end to end, one holds more than b where all together hold more than q × b, and one less where they hold less
   pub one-fuller : (b n q lo : ℕ) → q * b < block f lo (q * n) → (i : ℕ) × (b < block f i n)
   one-fuller b n zero lo h = absurd (let k = rw (zero-mul, zero-mul, block-none lo) at h in omega arith)
   one-fuller b n (suc q) lo h =

@@ -1,5 +1,5 @@
 //! Document 01, "The even plan": "the largest s in the range at which an endless list of sizes obeys the rules"; document 02, Req 06:
-//! it "looks through both, largest gap first".
+//! it "looks through both, largest gap first"; Req 10: what endless lists of sizes at one gap hold in a row.
 
 use crate::{Kind, Plan, Refusal, Spec};
 use std::collections::HashMap;
@@ -117,7 +117,7 @@ impl Lists {
     }
 }
 
-/// No report yet, or some.
+/// How far a list has come; by default it has no report.
 #[derive(Clone, Default, PartialEq, Eq, Hash)]
 struct Node {
     /// How many reports there are. From `settled` on the number itself no longer matters.
