@@ -7,7 +7,7 @@ use numbers::ceil_div;
 use spec::{Range, Rate, Spec};
 
 // The conditions that can fail, 3 to 6 of document 01.
-#[derive(Drop)]
+#[derive(Clone, Copy)]
 pub enum Condition {
     BoundsFitRates,
     FewestReportsFitBudget,
@@ -16,7 +16,7 @@ pub enum Condition {
 }
 
 // The first condition that fails, or the number of another refusal.
-#[derive(Drop)]
+#[derive(Clone, Copy)]
 pub enum Consistency {
     Consistent,
     Inconsistent(Condition),

@@ -6,35 +6,35 @@ ghost use Rattle.cycle.specs.Cycles.{round};
 ghost use Rattle.cycle.specs.Windows.{run_of, Walkable, IsReport, IsRound, IsParts, Spans, with_report, without_report, rule_passes, starts_pass};
 
 // One report: its size, and the gap to the next.
-#[derive(Drop)]
+#[derive(Clone, Copy)]
 struct Report {
     gap: u64,
     size: u64,
 }
 
 // One round of a cycle. Its minutes need more than 16 bits.
-#[derive(Drop)]
+#[derive(Clone, Copy)]
 struct Round {
     minutes: u64,
     records: u64,
 }
 
 // A number of minutes: the records that its whole rounds hold, and the minutes left over.
-#[derive(Drop)]
+#[derive(Clone, Copy)]
 struct Parts {
     rounds: u64,
     rest: u64,
 }
 
 // What is asked of the stretches that start at a report.
-#[derive(Drop)]
+#[derive(Clone, Copy)]
 pub(crate) enum Rule {
     AtMost(u16),
     AtLeast(u16),
 }
 
 // The reports from number `first` up to, not including, number `past`: the minutes from the one to the other, and the records held.
-#[derive(Drop)]
+#[derive(Clone, Copy)]
 struct Window {
     first: usize,
     past: usize,

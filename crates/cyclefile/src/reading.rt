@@ -10,7 +10,7 @@ use spec::refusal;
 use steps::step_at;
 
 // What reading a file gives: how many pairs it holds, or a refusal.
-#[derive(Drop)]
+#[derive(Clone, Copy)]
 pub enum CycleFile {
     Pairs(usize),
     Refused(u32),

@@ -9,14 +9,14 @@ ghost use Rattle.duty.specs.Windows.{window_before, day_before, day_minute, week
 use spec::refusal;
 
 // The calendar minute that was asked for, or the number of the refusal.
-#[derive(Drop)]
+#[derive(Clone, Copy)]
 pub enum CalendarMinute {
     At(u64),
     Refused(u32),
 }
 
 // The number of the duty minute that was asked for, or that of the refusal.
-#[derive(Drop)]
+#[derive(Clone, Copy)]
 pub enum DutyMinute {
     Number(u32),
     Refused(u32),

@@ -12,7 +12,7 @@ use plan::{Kind, Plan};
 use spec::{Range, Rate, Spec, SpecRead, refusal};
 
 // The even plan, or the number of its refusal.
-#[derive(Drop)]
+#[derive(Clone, Copy)]
 pub enum EvenPlan {
     Found(Plan),
     Refused(u32),

@@ -12,7 +12,7 @@ use libc::{STDIN_FILENO, STDOUT_FILENO};
 use plan::{Plan, Reported};
 
 // A line of text as it grows. No line has more than 80 bytes, though each of its numbers had 20 digits.
-#[derive(Drop)]
+#[derive(Clone, Copy)]
 struct Line {
     bytes: [u8; 80],
     len: usize,

@@ -13,14 +13,14 @@ use plan::moments::Contents;
 use plan::{Kind, Plan, moments};
 use spec::{BothRates, Rates, Spec};
 
-#[derive(Drop)]
+#[derive(Clone, Copy)]
 pub enum Family {
     MinimumDemand,
     MaximumSupply,
 }
 
 // A schedule for k reports with its supply figure, required or available, or the number of the refusal.
-#[derive(Drop)]
+#[derive(Clone, Copy)]
 pub enum Scheduled {
     Found { plan: Plan, supply: u32 },
     Refused(u32),

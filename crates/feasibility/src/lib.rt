@@ -13,7 +13,7 @@ use plan::Plan;
 use spec::{BothRates, Rates, Spec};
 
 // The plan that the test passes with its supply figure, the condition that failed first, or the number of another refusal.
-#[derive(Drop)]
+#[derive(Clone, Copy)]
 pub enum Tested {
     Passed { plan: Plan, supply: u32 },
     Inconsistent(Condition),
@@ -42,7 +42,7 @@ fn is_better(f: Family, v: u32, w: u32) -> bool
 }
 
 // A schedule with its supply figure. There is no case for none: the search begins with a k that has a schedule.
-#[derive(Drop)]
+#[derive(Clone, Copy)]
 struct Taken {
     plan: Plan,
     supply: u32,

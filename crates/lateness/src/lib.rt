@@ -13,7 +13,7 @@ use spec::{Range, Rate, Spec, refusal};
 pub const MOST_LATE: u32 = 1440;
 
 // A specification for planned minutes, or the number of a refusal.
-#[derive(Drop)]
+#[derive(Clone, Copy)]
 pub enum Planned {
     Against(Spec),
     Refused(u32),

@@ -153,7 +153,7 @@ pub extern "C" fn maxeltu_even_plan(
 }
 
 // The plan that four numbers name, if the first names a kind.
-#[derive(Drop)]
+#[derive(Clone, Copy)]
 enum Named {
     Plan(Plan),
     NoKind,
@@ -341,7 +341,7 @@ pub extern "C" fn maxeltu_cycle_cost(
 }
 
 // How many words a cycle file's pairs take, none where it is refused, and the call's answer.
-#[derive(Drop)]
+#[derive(Clone, Copy)]
 struct FileRead {
     used: usize,
     number: u32,

@@ -19,7 +19,7 @@ pub const PLACES: u16 = 1024;
 // The reports that are held stand in the ring from place `first` on, oldest first: `count` of them with `records` records, the last
 // at minute `last`.
 #[repr(C)]
-#[derive(Drop)]
+#[derive(Clone, Copy)]
 pub struct Meter {
     pub dmin: u16,
     pub dmax: u16,
@@ -35,35 +35,35 @@ pub struct Meter {
 }
 
 // 0 with a meter that holds nothing, or the number of the refusal with one that takes no offer.
-#[derive(Drop)]
+#[derive(Clone, Copy)]
 pub struct Made {
     pub number: u32,
     pub meter: Meter,
 }
 
 // The budget left, which is told only where there is a supply rate.
-#[derive(Drop)]
+#[derive(Clone, Copy)]
 pub enum Left {
     Untold,
     Records(u32),
 }
 
 // What an offer gets: 0 or the number of the refusal, and the budget left after it.
-#[derive(Drop)]
+#[derive(Clone, Copy)]
 pub struct Answer {
     pub number: u32,
     pub left: Left,
 }
 
 // A meter after an offer, with the answer to it.
-#[derive(Drop)]
+#[derive(Clone, Copy)]
 pub struct Stepped {
     pub meter: Meter,
     pub answer: Answer,
 }
 
 // The oldest reports that are out of the window: how many, and their records.
-#[derive(Drop)]
+#[derive(Clone, Copy)]
 struct Aged {
     count: u16,
     records: u32,

@@ -9,7 +9,7 @@ ghost use Rattle.pairs.specs.Pairs.{count_in, flatten, pairs_of, laid_over, that
 pub const MOST_PAIRS: usize = 512;
 
 #[repr(C)]
-#[derive(Drop)]
+#[derive(Clone, Copy)]
 pub struct Pair {
     // Minutes from this report to the next.
     pub gap: u16,

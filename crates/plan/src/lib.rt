@@ -11,14 +11,14 @@ ghost use Rattle.plan.specs.Reports.{report_of, count_of};
 
 use spec::refusal;
 
-#[derive(Drop)]
+#[derive(Clone, Copy)]
 pub enum Kind {
     WellFormed,
     Even,
 }
 
 // `count` reports (k) in a period of `period` minutes (π) with `total` records (δ).
-#[derive(Drop)]
+#[derive(Clone, Copy)]
 pub struct Plan {
     pub kind: Kind,
     pub count: u32,
@@ -27,14 +27,14 @@ pub struct Plan {
 }
 
 // Minute and size of a report, or the number of the refusal.
-#[derive(Drop)]
+#[derive(Clone, Copy)]
 pub enum Reported {
     At { minute: u64, size: u32 },
     Refused(u32),
 }
 
 // How many, or the number of the refusal.
-#[derive(Drop)]
+#[derive(Clone, Copy)]
 pub enum Counted {
     Count(u64),
     Refused(u32),

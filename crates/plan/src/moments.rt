@@ -9,21 +9,21 @@ use crate::{Plan, count_before, held_by_first, is_proper, well_minute};
 use spec::refusal;
 
 // The number of a report, or of the refusal.
-#[derive(Drop)]
+#[derive(Clone, Copy)]
 pub enum Found {
     Number(u32),
     Refused(u32),
 }
 
 // How many reports and records lie in some minutes, or the number of the refusal.
-#[derive(Drop)]
+#[derive(Clone, Copy)]
 pub enum Contents {
     Held { reports: u32, records: u64 },
     Refused(u32),
 }
 
 // What the first minutes of a plan hold.
-#[derive(Drop)]
+#[derive(Clone, Copy)]
 struct Front {
     reports: u64,
     records: u64,

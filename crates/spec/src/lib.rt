@@ -12,21 +12,21 @@ ghost use Rattle.spec.specs.Rates.{second_number, one_range_number, both_rates, 
 
 // A rate, which may be absent: so many records in so many minutes. A supply rate (B, R) is the most that so many minutes
 // may hold, a demand rate (L, P) the least.
-#[derive(Drop)]
+#[derive(Clone, Copy)]
 pub enum Rate {
     Absent,
     Present { records: u16, minutes: u16 },
 }
 
 // A range, which may be absent: from `min` to `max`, as Tmin to Tmax, or the second range of gaps.
-#[derive(Drop)]
+#[derive(Clone, Copy)]
 pub enum Range {
     Absent,
     Present { min: u16, max: u16 },
 }
 
 // Sizes dmin to dmax in records, gaps smin to smax, or in the second range, in minutes.
-#[derive(Drop)]
+#[derive(Clone, Copy)]
 pub struct Spec {
     pub dmin: u16,
     pub dmax: u16,
@@ -39,14 +39,14 @@ pub struct Spec {
 }
 
 // What reading a specification file gives: an accepted specification, or the number of its refusal.
-#[derive(Drop)]
+#[derive(Clone, Copy)]
 pub enum SpecRead {
     Accepted(Spec),
     Refused(u32),
 }
 
 // B and R of the supply rate, L and P of the demand rate.
-#[derive(Drop)]
+#[derive(Clone, Copy)]
 pub struct Rates {
     pub b: u16,
     pub r: u16,
@@ -55,7 +55,7 @@ pub struct Rates {
 }
 
 // Both rates, or the number of the refusal where one is absent.
-#[derive(Drop)]
+#[derive(Clone, Copy)]
 pub enum BothRates {
     Both(Rates),
     Refused(u32),

@@ -11,7 +11,7 @@ use pairs::Pair;
 use spec::refusal;
 
 // Where writing stands: `at` bytes are passed, and `last` is the pair passed last, where the next is not the first.
-#[derive(Drop)]
+#[derive(Clone, Copy)]
 struct Cursor {
     at: usize,
     first: bool,

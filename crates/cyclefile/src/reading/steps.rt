@@ -7,14 +7,14 @@ use crate::field_length;
 use spec::refusal;
 
 // A field of a pair, and the place behind it.
-#[derive(Drop)]
+#[derive(Clone, Copy)]
 struct Field {
     number: u16,
     end: usize,
 }
 
 // What one pair gives: the place behind it and its fields, where `number` is 0, or else a refusal.
-#[derive(Drop)]
+#[derive(Clone, Copy)]
 pub(crate) struct Step {
     pub number: u32,
     pub at: usize,
