@@ -1,0 +1,12 @@
+-- What `nearest_to` finds, of a proper plan.
+use mathlib.Core.Path.{sym, ◌∙◌}
+use borrow.Author.Tests.{not-true, not-false}
+use Rattle.plan.proofs.PlanMoments.{no_number, numbered}
+use borrow.Author.Rules.{rules}
+use Rattle.plan.proofs.moments.nearest_report.Goals as goal
+
+pub returns-then-not-is_proper : goal.returns-then-not-is_proper
+returns-then-not-is_proper c = no_number _ _ (sym c.is_proper.ensures ∙ c.if-not-is_proper.true)
+
+pub returns : goal.returns
+returns c = numbered _ (sym c.is_proper.ensures ∙ c.if-not-is_proper.false) c.nearest_to.ensures.0
