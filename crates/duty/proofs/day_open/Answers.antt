@@ -1,0 +1,8 @@
+-- `day_open` meets its contract: the test is that of the definition.
+use borrow.Author.Rules.{rules}
+use Rattle.duty.specs.Weeks.{day_open}
+use Rattle.duty.proofs.day_open.Goals as goal
+
+pub returns : goal.returns
+unfolding day_open
+returns c = rw (c.in_window.ensures, c.in_window-2.ensures)
