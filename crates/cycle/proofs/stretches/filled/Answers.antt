@@ -1,0 +1,36 @@
+-- `filled` meets its contract. The invariant: the window holds its reports, and its first report is the one that it started with. While it
+-- has not reached v minutes, the report at its end is before the end of those minutes, so it may be taken in; v is at most a round, so
+-- that report is one of the first two rounds. The measure is the minutes that are left: no gap is 0.
+use Prim.Native.Nat.{◌-◌}
+use native.Mathlib.Omega.{arith}
+use mathlib.Core.Path.{◌≡◌, refl}
+use borrow.Author.Rules.{rules}
+use Rattle.cycle.specs.Windows.{run_of, Spans}
+use Rattle.cycle.proofs.MovingWindow.{spans_with, next_place}
+use Rattle.cycle.proofs.stretches.filled.Goals as goal
+
+pub loop-w-init : goal.loop-w-init
+loop-w-init c = (refl, c.requires.3)
+
+pub report_at-requires : goal.report_at-requires
+report_at-requires c =
+    let start = c in
+    (next_place start.args.words.now _ (omega arith) start.requires.2 c.loop-w.invariant.1 (omega arith), start.requires.0.few)
+
+pub with-w-requires : goal.with-w-requires
+with-w-requires c =
+    let start = c in
+    let p = next_place start.args.words.now _ (omega arith) start.requires.2 c.loop-w.invariant.1 (omega arith) in
+    (omega arith, omega arith, omega arith, omega arith, omega arith)
+
+pub loop-w-smaller : goal.loop-w-smaller
+loop-w-smaller c =
+    let start = c in
+    rw c.with-w.ensures (omega (arith, start.requires.0.later c.loop-w.w.past))
+
+pub loop-w-preserved : goal.loop-w-preserved
+loop-w-preserved c =
+    rw c.with-w.ensures (c.loop-w.invariant.0, spans_with _ _ c.loop-w.invariant.1 c.report_at.ensures (omega arith))
+
+pub returns : goal.returns
+returns c = (c.loop-w.invariant.0, search rules, c.loop-w.invariant.1)

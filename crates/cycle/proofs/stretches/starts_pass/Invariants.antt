@@ -1,0 +1,27 @@
+-- `starts_pass` meets its contract. The invariant: the window starts at report `first`, none of its reports is past the minutes left over,
+-- and the rule passed at every report before `first`. Once the window is filled, it holds what those minutes from report `first` hold, and
+-- with the whole rounds what all the minutes hold: so each turn judges the stretch that starts at its report. The window's first report
+-- is then let go; its end stays, for no stretch ends before the one that started a report earlier.
+use Prim.Native.Nat.{ℕ, ◌-◌, ◌/◌, ◌≤◌, ◌<◌}
+use native.Mathlib.Omega.{arith}
+use mathlib.Core.Path.{◌≡◌, ◌∙◌}
+use mathlib.Core.Bool.{true}
+use mathlib.Core.List.{List}
+use lib.ListN.{length}
+use borrow.Author.Count.{below_more}
+use borrow.Author.Rules.{rules}
+use Rattle.numbers.proofs.All.{all_pass, one_fails}
+use Rattle.numbers.proofs.Negated.{held, failed}
+use Rattle.pairs.proofs.FlatLists.{length_pairs_of}
+use Rattle.schedule.specs.Schedules.{minute, stretch}
+use Rattle.cycle.specs.Windows.{run_of, Spans, rule_passes, starts_pass}
+use Rattle.cycle.proofs.MovingWindow.{spans_none, spans_without, first_inside, first_there, passes_here, past_fits}
+use Rattle.cycle.proofs.stretches.starts_pass.Given as goal
+
+abbrev pub invariant-loop-w : goal.invariant-loop-w
+invariant-loop-w l =
+    (l.w.first ≤ l.count) × Spans (run_of l.words) l.parts.rest l.w
+    × ((i : ℕ) → i < l.w.first → rule_passes l.rule (stretch (run_of l.words) (minute (run_of l.words) i) l.minutes) ((run_of l.words).size i) ≡ true)
+
+abbrev pub decreases-loop-w : goal.decreases-loop-w
+decreases-loop-w l = l.count - l.w.first
