@@ -1,0 +1,38 @@
+-- `aged_of` meets its contract. The invariant: the k reports passed are w minutes old or older, so that the walk over the others gives what is left of
+-- the count, and `records` is their sum, each at most 65,535. The measure is what is left of the ring.
+use Prim.Native.Nat.{◌+◌, ◌*◌, ◌-◌, ◌≤◌}
+use native.Mathlib.Omega.{arith}
+use mathlib.Core.Path.{◌≡◌, sym, ◌∙◌}
+use borrow.Author.Rules.{rules}
+use borrow.Author.Tests.{not-true, not-false}
+use Rattle.schedule.specs.Schedules.{sum}
+use Rattle.schedule.proofs.Sums.{sum_none, sum_more}
+use Rattle.meter.specs.Ring.{ring_report, aged_from}
+use Rattle.meter.proofs.Steps.{walk_starts, walk_goes_on, walk_stops, walk_ends}
+use Rattle.meter.proofs.aged_of.Goals as goal
+
+pub loop-k-init : goal.loop-k-init
+loop-k-init c = (search rules, walk_starts _ _ _ _, sym (sum_none _), search rules)
+
+pub returns-then-not-is_aged : goal.returns-then-not-is_aged
+unfolding ring_report
+returns-then-not-is_aged c =
+    let loop = c in
+    let e = sym c.is_aged.ensures ∙ c.if-not-is_aged.true in
+    (walk_stops _ _ _ _ _ _ loop.loop-k.invariant.1 (search rules) (rw (← c.place-at.ensures.0) e), search rules, loop.loop-k.invariant.2)
+
+pub loop-k-preserved : goal.loop-k-preserved
+unfolding ring_report
+loop-k-preserved c =
+    let judged = c in
+    let loop = judged in
+    let e = sym judged.is_aged.ensures ∙ c.if-not-is_aged.false in
+    let place = judged.place-at.ensures.0 in (
+      search rules,
+      walk_goes_on _ _ _ _ _ _ loop.loop-k.invariant.1 (search rules) (rw (← place) e),
+      rw (sum_more _ _, ← place) (omega (arith, loop.loop-k.invariant.2, c.wide-records.ensures.0)),
+      search rules,
+    )
+
+pub returns : goal.returns
+returns c = (walk_ends _ _ _ _ _ _ c.loop-k.invariant.1 (search rules), search rules, c.loop-k.invariant.2)
