@@ -38,68 +38,68 @@ abbrev pub refusal : ℕ → Answer
 refusal n = record { number = n; values = [] }
 
 -- conditions "3 to 6 of the list above, which are not refusal numbers"
-abbrev pub conditionNumber : Condition → ℕ
-conditionNumber BoundsFitRates = 3
-conditionNumber FewestReportsFitBudget = 4
-conditionNumber EnoughReportsForDemand = 5
-conditionNumber SupplyCoversDemand = 6
+abbrev pub condition_number : Condition → ℕ
+condition_number BoundsFitRates = 3
+condition_number FewestReportsFitBudget = 4
+condition_number EnoughReportsForDemand = 5
+condition_number SupplyCoversDemand = 6
 
 -- "7, carrying the first condition that fails"
 abbrev pub inconsistent : Condition → Answer
-inconsistent c = record { number = 7; values = conditionNumber c ∷ [] }
+inconsistent c = record { number = 7; values = condition_number c ∷ [] }
 
 -- consistency: nothing more to say, or 7, or 3, 4, 24 or 25
-abbrev pub consistencyAnswer : Consistency → Answer
-consistencyAnswer Consistent = yields []
-consistencyAnswer (FailsCondition c) = inconsistent c
-consistencyAnswer (NotJudged n) = refusal n
+abbrev pub consistency_answer : Consistency → Answer
+consistency_answer Consistent = yields []
+consistency_answer (FailsCondition c) = inconsistent c
+consistency_answer (NotJudged n) = refusal n
 
 -- a schedule for k reports: its plan's numbers and its supply figure, or 3 to 6, 24 or 25
-abbrev pub scheduledAnswer : Scheduled → Answer
-scheduledAnswer (ScheduleOf plan v) = yields (plan_numbers plan (v ∷ []))
-scheduledAnswer (NoneFound n) = refusal n
+abbrev pub scheduled_answer : Scheduled → Answer
+scheduled_answer (ScheduleOf plan v) = yields (plan_numbers plan (v ∷ []))
+scheduled_answer (NoneFound n) = refusal n
 
 -- the test: the numbers of the plan that it passes and its supply figure, or 7, or 3, 4, 24, 25, 5, 9
-abbrev pub testedAnswer : Tested → Answer
-testedAnswer (Passed plan v) = yields (plan_numbers plan (v ∷ []))
-testedAnswer (Inconsistent c) = inconsistent c
-testedAnswer (NotPassed n) = refusal n
+abbrev pub tested_answer : Tested → Answer
+tested_answer (Passed plan v) = yields (plan_numbers plan (v ∷ []))
+tested_answer (Inconsistent c) = inconsistent c
+tested_answer (NotPassed n) = refusal n
 
 -- the even plan: its numbers, or 3, 4, 24, 10
-abbrev pub evenAnswer : EvenPlan → Answer
-evenAnswer (Found p) = yields (plan_numbers p [])
-evenAnswer (Refused n) = refusal n
+abbrev pub even_answer : EvenPlan → Answer
+even_answer (Found p) = yields (plan_numbers p [])
+even_answer (Refused n) = refusal n
 
 -- a report: minute, size; or 11
-abbrev pub reportAnswer : Reported → Answer
-reportAnswer (At m d) = yields (m ∷ d ∷ [])
-reportAnswer (NotReported n) = refusal n
+abbrev pub report_answer : Reported → Answer
+report_answer (At m d) = yields (m ∷ d ∷ [])
+report_answer (NotReported n) = refusal n
 
 -- the last or the nearest report: its number; or 11 (document 02, Req 05)
-abbrev pub numberAnswer : ReportFound → Answer
-numberAnswer (Number i) = yields (i ∷ [])
-numberAnswer (NotFound n) = refusal n
+abbrev pub number_answer : ReportFound → Answer
+number_answer (Number i) = yields (i ∷ [])
+number_answer (NotFound n) = refusal n
 
 -- what lies between two minutes: reports, records; or 11, 23
-abbrev pub contentsAnswer : Contents → Answer
-contentsAnswer (Held reports records) = yields (reports ∷ records ∷ [])
-contentsAnswer (NotCounted n) = refusal n
+abbrev pub contents_answer : Contents → Answer
+contents_answer (Held reports records) = yields (reports ∷ records ∷ [])
+contents_answer (NotCounted n) = refusal n
 
 -- what the first reports cost: tenths of a cent, whole cents; or 11 of a plan, 3, 4, 24, 12 to 16 of a cycle (document 02, Req 08)
-abbrev pub billAnswer : Bill → Answer
-billAnswer (Due tenths cents) = yields (tenths ∷ cents ∷ [])
-billAnswer (NotBilled n) = refusal n
+abbrev pub bill_answer : Bill → Answer
+bill_answer (Due tenths cents) = yields (tenths ∷ cents ∷ [])
+bill_answer (NotBilled n) = refusal n
 
 -- the calendar minute of a duty minute; or 27 (document 02, Req 11)
-abbrev pub calendarAnswer : CalendarMinute → Answer
-calendarAnswer (CalendarAt m) = yields (m ∷ [])
-calendarAnswer (NoCalendarMinute n) = refusal n
+abbrev pub calendar_answer : CalendarMinute → Answer
+calendar_answer (CalendarAt m) = yields (m ∷ [])
+calendar_answer (NoCalendarMinute n) = refusal n
 
 -- the duty minute of an open calendar minute; or 27, 28
-abbrev pub dutyAnswer : DutyMinute → Answer
-dutyAnswer (DutyNumber d) = yields (d ∷ [])
-dutyAnswer (NoDutyMinute n) = refusal n
+abbrev pub duty_answer : DutyMinute → Answer
+duty_answer (DutyNumber d) = yields (d ∷ [])
+duty_answer (NoDutyMinute n) = refusal n
 
 -- What a lent place holds after a call: value i of the answer where the answer's number is `when`, else what it held.
-unfoldable pub heldAfter : (when i : ℕ) → Answer → ℕ → ℕ
-heldAfter when i answer held = cond (eqb answer.number when) (get_or answer.values i held) held
+unfoldable pub held_after : (when i : ℕ) → Answer → ℕ → ℕ
+held_after when i answer held = cond (eqb answer.number when) (get_or answer.values i held) held

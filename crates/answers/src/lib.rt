@@ -1,7 +1,7 @@
 // What each operation's answer is in numbers, as the C calls hand it out: the number of the refusal or 0, and the values, each stored in
 // a lent place where there is one to tell. No place is written on a refusal, but for the condition of an inconsistent specification.
 ghost use Rattle.std.specs.Prelude.{◌≡◌};
-ghost use Rattle.answers.specs.Answers.{conditionNumber, consistencyAnswer, scheduledAnswer, testedAnswer, evenAnswer, reportAnswer, numberAnswer, contentsAnswer, billAnswer, calendarAnswer, dutyAnswer, heldAfter};
+ghost use Rattle.answers.specs.Answers.{condition_number, consistency_answer, scheduled_answer, tested_answer, even_answer, report_answer, number_answer, contents_answer, bill_answer, calendar_answer, duty_answer, held_after};
 
 use consistency::{Condition, Consistency};
 use cost::Bill;
@@ -14,7 +14,7 @@ use plan::moments::{Contents, Found};
 use spec::refusal;
 
 pub fn condition_number(c: Condition) -> u32
-    ensures { result ≡ conditionNumber c }
+    ensures { result ≡ condition_number c }
 {
     match c {
         Condition::BoundsFitRates => 3,
@@ -25,7 +25,7 @@ pub fn condition_number(c: Condition) -> u32
 }
 
 pub fn consistency_answer(found: Consistency, condition: &mut u32) -> u32
-    ensures { (result ≡ (consistencyAnswer found).number) × (condition.new ≡ heldAfter 7 0 (consistencyAnswer found) condition.old) }
+    ensures { (result ≡ (consistency_answer found).number) × (condition.new ≡ held_after 7 0 (consistency_answer found) condition.old) }
 {
     match found {
         Consistency::Consistent => 0,
@@ -38,10 +38,10 @@ pub fn consistency_answer(found: Consistency, condition: &mut u32) -> u32
 }
 
 pub fn schedule_answer(found: Scheduled, period: &mut u32, total: &mut u32, figure: &mut u32) -> u32
-    ensures { (result ≡ (scheduledAnswer found).number)
-        × (period.new ≡ heldAfter 0 2 (scheduledAnswer found) period.old)
-        × (total.new ≡ heldAfter 0 3 (scheduledAnswer found) total.old)
-        × (figure.new ≡ heldAfter 0 4 (scheduledAnswer found) figure.old) }
+    ensures { (result ≡ (scheduled_answer found).number)
+        × (period.new ≡ held_after 0 2 (scheduled_answer found) period.old)
+        × (total.new ≡ held_after 0 3 (scheduled_answer found) total.old)
+        × (figure.new ≡ held_after 0 4 (scheduled_answer found) figure.old) }
 {
     match found {
         Scheduled::Found { plan: p, supply } => {
@@ -62,12 +62,12 @@ pub fn test_answer(
     total: &mut u32,
     supply: &mut u32,
 ) -> u32
-    ensures { (result ≡ (testedAnswer found).number)
-        × (condition.new ≡ heldAfter 7 0 (testedAnswer found) condition.old)
-        × (k.new ≡ heldAfter 0 1 (testedAnswer found) k.old)
-        × (period.new ≡ heldAfter 0 2 (testedAnswer found) period.old)
-        × (total.new ≡ heldAfter 0 3 (testedAnswer found) total.old)
-        × (supply.new ≡ heldAfter 0 4 (testedAnswer found) supply.old) }
+    ensures { (result ≡ (tested_answer found).number)
+        × (condition.new ≡ held_after 7 0 (tested_answer found) condition.old)
+        × (k.new ≡ held_after 0 1 (tested_answer found) k.old)
+        × (period.new ≡ held_after 0 2 (tested_answer found) period.old)
+        × (total.new ≡ held_after 0 3 (tested_answer found) total.old)
+        × (supply.new ≡ held_after 0 4 (tested_answer found) supply.old) }
 {
     match found {
         Tested::Passed {
@@ -89,10 +89,10 @@ pub fn test_answer(
 }
 
 pub fn even_answer(found: EvenPlan, k: &mut u32, period: &mut u32, total: &mut u32) -> u32
-    ensures { (result ≡ (evenAnswer found).number)
-        × (k.new ≡ heldAfter 0 1 (evenAnswer found) k.old)
-        × (period.new ≡ heldAfter 0 2 (evenAnswer found) period.old)
-        × (total.new ≡ heldAfter 0 3 (evenAnswer found) total.old) }
+    ensures { (result ≡ (even_answer found).number)
+        × (k.new ≡ held_after 0 1 (even_answer found) k.old)
+        × (period.new ≡ held_after 0 2 (even_answer found) period.old)
+        × (total.new ≡ held_after 0 3 (even_answer found) total.old) }
 {
     match found {
         EvenPlan::Found(p) => {
@@ -106,9 +106,9 @@ pub fn even_answer(found: EvenPlan, k: &mut u32, period: &mut u32, total: &mut u
 }
 
 pub fn report_answer(found: Reported, minute: &mut u64, size: &mut u32) -> u32
-    ensures { (result ≡ (reportAnswer found).number)
-        × (minute.new ≡ heldAfter 0 0 (reportAnswer found) minute.old)
-        × (size.new ≡ heldAfter 0 1 (reportAnswer found) size.old) }
+    ensures { (result ≡ (report_answer found).number)
+        × (minute.new ≡ held_after 0 0 (report_answer found) minute.old)
+        × (size.new ≡ held_after 0 1 (report_answer found) size.old) }
 {
     match found {
         Reported::At { minute: m, size: d } => {
@@ -121,7 +121,7 @@ pub fn report_answer(found: Reported, minute: &mut u64, size: &mut u32) -> u32
 }
 
 pub fn number_answer(found: Found, number: &mut u32) -> u32
-    ensures { (result ≡ (numberAnswer found).number) × (number.new ≡ heldAfter 0 0 (numberAnswer found) number.old) }
+    ensures { (result ≡ (number_answer found).number) × (number.new ≡ held_after 0 0 (number_answer found) number.old) }
 {
     match found {
         Found::Number(i) => {
@@ -133,9 +133,9 @@ pub fn number_answer(found: Found, number: &mut u32) -> u32
 }
 
 pub fn contents_answer(found: Contents, reports: &mut u32, records: &mut u64) -> u32
-    ensures { (result ≡ (contentsAnswer found).number)
-        × (reports.new ≡ heldAfter 0 0 (contentsAnswer found) reports.old)
-        × (records.new ≡ heldAfter 0 1 (contentsAnswer found) records.old) }
+    ensures { (result ≡ (contents_answer found).number)
+        × (reports.new ≡ held_after 0 0 (contents_answer found) reports.old)
+        × (records.new ≡ held_after 0 1 (contents_answer found) records.old) }
 {
     match found {
         Contents::Held {
@@ -151,9 +151,9 @@ pub fn contents_answer(found: Contents, reports: &mut u32, records: &mut u64) ->
 }
 
 pub fn bill_answer(found: Bill, tenths: &mut u64, cents: &mut u64) -> u32
-    ensures { (result ≡ (billAnswer found).number)
-        × (tenths.new ≡ heldAfter 0 0 (billAnswer found) tenths.old)
-        × (cents.new ≡ heldAfter 0 1 (billAnswer found) cents.old) }
+    ensures { (result ≡ (bill_answer found).number)
+        × (tenths.new ≡ held_after 0 0 (bill_answer found) tenths.old)
+        × (cents.new ≡ held_after 0 1 (bill_answer found) cents.old) }
 {
     match found {
         Bill::Due {
@@ -169,7 +169,7 @@ pub fn bill_answer(found: Bill, tenths: &mut u64, cents: &mut u64) -> u32
 }
 
 pub fn calendar_answer(found: CalendarMinute, calendar: &mut u64) -> u32
-    ensures { (result ≡ (calendarAnswer found).number) × (calendar.new ≡ heldAfter 0 0 (calendarAnswer found) calendar.old) }
+    ensures { (result ≡ (calendar_answer found).number) × (calendar.new ≡ held_after 0 0 (calendar_answer found) calendar.old) }
 {
     match found {
         CalendarMinute::At(m) => {
@@ -181,7 +181,7 @@ pub fn calendar_answer(found: CalendarMinute, calendar: &mut u64) -> u32
 }
 
 pub fn duty_answer(found: DutyMinute, duty: &mut u32) -> u32
-    ensures { (result ≡ (dutyAnswer found).number) × (duty.new ≡ heldAfter 0 0 (dutyAnswer found) duty.old) }
+    ensures { (result ≡ (duty_answer found).number) × (duty.new ≡ held_after 0 0 (duty_answer found) duty.old) }
 {
     match found {
         DutyMinute::Number(d) => {

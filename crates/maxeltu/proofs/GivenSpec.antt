@@ -10,7 +10,7 @@ use Rattle.pairs.specs.declared.Pair.{Pair}
 use Rattle.pairs.specs.Pairs.{that_fit}
 use Rattle.cost.specs.Bills.{cycle_bill}
 use Rattle.cost.proofs.Billing.{fit_bill}
-use Rattle.answers.specs.Answers.{Answer, refusal, billAnswer}
+use Rattle.answers.specs.Answers.{Answer, refusal, bill_answer}
 use Rattle.maxeltu.specs.Calls.{cycle_cost_call}
 
 -- the bytes were read to x, which is a refusal, or a specification
@@ -26,6 +26,6 @@ pub fit_cost : (bytes : List ℕ) (ps : List Pair) (n : ℕ) → cycle_cost_call
 unfolding cycle_cost_call
 fit_cost bytes ps n = by (read_spec bytes)
   where
-    by : (read : SpecRead) → if_read read (λ s. billAnswer (cycle_bill s (that_fit 512 ps) n)) refusal ≡ if_read read (λ s. billAnswer (cycle_bill s ps n)) refusal
-    by (Accepted s) = ap billAnswer (fit_bill s ps n)
+    by : (read : SpecRead) → if_read read (λ s. bill_answer (cycle_bill s (that_fit 512 ps) n)) refusal ≡ if_read read (λ s. bill_answer (cycle_bill s ps n)) refusal
+    by (Accepted s) = ap bill_answer (fit_bill s ps n)
     by (NotRead k) = refl

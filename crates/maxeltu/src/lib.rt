@@ -11,7 +11,7 @@ ghost use Rattle.families.specs.declared.Family.TheVariants.{MinimumDemand, Maxi
 ghost use Rattle.meter.specs.Ring.{fresh, stepped, told_or};
 ghost use Rattle.duty.specs.Weeks.{table_number};
 ghost use Rattle.duty.specs.Minutes.{table_of};
-ghost use Rattle.answers.specs.Answers.{heldAfter};
+ghost use Rattle.answers.specs.Answers.{held_after};
 ghost use Rattle.maxeltu.specs.Verdict.{verdict_of};
 ghost use Rattle.maxeltu.specs.InnerPromises.{file_read, count_after};
 ghost use Rattle.maxeltu.specs.Calls.{consistency_call, schedule_call, test_call, even_call, plan_named, report_call, last_call, nearest_call, between_call, plan_cost_call, cycle_cost_call, calendar_call, duty_call};
@@ -47,7 +47,7 @@ pub extern "C" fn maxeltu_verdict(spec_bytes: &[u8], cycle_bytes: &[u8]) -> u32
 #[unsafe(no_mangle)]
 pub extern "C" fn maxeltu_consistency(spec_bytes: &[u8], condition: &mut u32) -> u32
     ensures { (result ≡ (consistency_call spec_bytes.now).number)
-        × (condition.new ≡ heldAfter 7 0 (consistency_call spec_bytes.now) condition.old) }
+        × (condition.new ≡ held_after 7 0 (consistency_call spec_bytes.now) condition.old) }
 {
     let read = spec::read_spec(spec_bytes);
     let SpecRead::Accepted(s) = read else {
@@ -66,9 +66,9 @@ pub extern "C" fn maxeltu_min_demand(
     required: &mut u32,
 ) -> u32
     ensures { (result ≡ (schedule_call MinimumDemand spec_bytes.now k).number)
-        × (period.new ≡ heldAfter 0 2 (schedule_call MinimumDemand spec_bytes.now k) period.old)
-        × (total.new ≡ heldAfter 0 3 (schedule_call MinimumDemand spec_bytes.now k) total.old)
-        × (required.new ≡ heldAfter 0 4 (schedule_call MinimumDemand spec_bytes.now k) required.old) }
+        × (period.new ≡ held_after 0 2 (schedule_call MinimumDemand spec_bytes.now k) period.old)
+        × (total.new ≡ held_after 0 3 (schedule_call MinimumDemand spec_bytes.now k) total.old)
+        × (required.new ≡ held_after 0 4 (schedule_call MinimumDemand spec_bytes.now k) required.old) }
 {
     let read = spec::read_spec(spec_bytes);
     let SpecRead::Accepted(s) = read else {
@@ -92,9 +92,9 @@ pub extern "C" fn maxeltu_max_supply(
     available: &mut u32,
 ) -> u32
     ensures { (result ≡ (schedule_call MaximumSupply spec_bytes.now k).number)
-        × (period.new ≡ heldAfter 0 2 (schedule_call MaximumSupply spec_bytes.now k) period.old)
-        × (total.new ≡ heldAfter 0 3 (schedule_call MaximumSupply spec_bytes.now k) total.old)
-        × (available.new ≡ heldAfter 0 4 (schedule_call MaximumSupply spec_bytes.now k) available.old) }
+        × (period.new ≡ held_after 0 2 (schedule_call MaximumSupply spec_bytes.now k) period.old)
+        × (total.new ≡ held_after 0 3 (schedule_call MaximumSupply spec_bytes.now k) total.old)
+        × (available.new ≡ held_after 0 4 (schedule_call MaximumSupply spec_bytes.now k) available.old) }
 {
     let read = spec::read_spec(spec_bytes);
     let SpecRead::Accepted(s) = read else {
@@ -119,11 +119,11 @@ pub extern "C" fn maxeltu_test(
     supply: &mut u32,
 ) -> u32
     ensures { (result ≡ (test_call spec_bytes.now).number)
-        × (condition.new ≡ heldAfter 7 0 (test_call spec_bytes.now) condition.old)
-        × (k.new ≡ heldAfter 0 1 (test_call spec_bytes.now) k.old)
-        × (period.new ≡ heldAfter 0 2 (test_call spec_bytes.now) period.old)
-        × (total.new ≡ heldAfter 0 3 (test_call spec_bytes.now) total.old)
-        × (supply.new ≡ heldAfter 0 4 (test_call spec_bytes.now) supply.old) }
+        × (condition.new ≡ held_after 7 0 (test_call spec_bytes.now) condition.old)
+        × (k.new ≡ held_after 0 1 (test_call spec_bytes.now) k.old)
+        × (period.new ≡ held_after 0 2 (test_call spec_bytes.now) period.old)
+        × (total.new ≡ held_after 0 3 (test_call spec_bytes.now) total.old)
+        × (supply.new ≡ held_after 0 4 (test_call spec_bytes.now) supply.old) }
 {
     let read = spec::read_spec(spec_bytes);
     let SpecRead::Accepted(s) = read else {
@@ -141,9 +141,9 @@ pub extern "C" fn maxeltu_even_plan(
     total: &mut u32,
 ) -> u32
     ensures { (result ≡ (even_call spec_bytes.now).number)
-        × (k.new ≡ heldAfter 0 1 (even_call spec_bytes.now) k.old)
-        × (period.new ≡ heldAfter 0 2 (even_call spec_bytes.now) period.old)
-        × (total.new ≡ heldAfter 0 3 (even_call spec_bytes.now) total.old) }
+        × (k.new ≡ held_after 0 1 (even_call spec_bytes.now) k.old)
+        × (period.new ≡ held_after 0 2 (even_call spec_bytes.now) period.old)
+        × (total.new ≡ held_after 0 3 (even_call spec_bytes.now) total.old) }
 {
     let read = spec::read_spec(spec_bytes);
     let SpecRead::Accepted(s) = read else {
@@ -194,8 +194,8 @@ pub extern "C" fn maxeltu_report(
     size: &mut u32,
 ) -> u32
     ensures { (result ≡ (report_call kind k period total i).number)
-        × (minute.new ≡ heldAfter 0 0 (report_call kind k period total i) minute.old)
-        × (size.new ≡ heldAfter 0 1 (report_call kind k period total i) size.old) }
+        × (minute.new ≡ held_after 0 0 (report_call kind k period total i) minute.old)
+        × (size.new ≡ held_after 0 1 (report_call kind k period total i) size.old) }
 {
     let Named::Plan(p) = plan_named(kind, k, period, total) else {
         return refusal::NOT_PROPER;
@@ -214,7 +214,7 @@ pub extern "C" fn maxeltu_last_report(
     number: &mut u32,
 ) -> u32
     ensures { (result ≡ (last_call kind k period total minute).number)
-        × (number.new ≡ heldAfter 0 0 (last_call kind k period total minute) number.old) }
+        × (number.new ≡ held_after 0 0 (last_call kind k period total minute) number.old) }
 {
     let Named::Plan(p) = plan_named(kind, k, period, total) else {
         return refusal::NOT_PROPER;
@@ -233,7 +233,7 @@ pub extern "C" fn maxeltu_nearest_report(
     number: &mut u32,
 ) -> u32
     ensures { (result ≡ (nearest_call kind k period total minute).number)
-        × (number.new ≡ heldAfter 0 0 (nearest_call kind k period total minute) number.old) }
+        × (number.new ≡ held_after 0 0 (nearest_call kind k period total minute) number.old) }
 {
     let Named::Plan(p) = plan_named(kind, k, period, total) else {
         return refusal::NOT_PROPER;
@@ -254,8 +254,8 @@ pub extern "C" fn maxeltu_between(
     records: &mut u64,
 ) -> u32
     ensures { (result ≡ (between_call kind k period total a b).number)
-        × (reports.new ≡ heldAfter 0 0 (between_call kind k period total a b) reports.old)
-        × (records.new ≡ heldAfter 0 1 (between_call kind k period total a b) records.old) }
+        × (reports.new ≡ held_after 0 0 (between_call kind k period total a b) reports.old)
+        × (records.new ≡ held_after 0 1 (between_call kind k period total a b) records.old) }
 {
     let Named::Plan(p) = plan_named(kind, k, period, total) else {
         return refusal::NOT_PROPER;
@@ -275,8 +275,8 @@ pub extern "C" fn maxeltu_plan_cost(
     cents: &mut u64,
 ) -> u32
     ensures { (result ≡ (plan_cost_call kind k period total reports).number)
-        × (tenths.new ≡ heldAfter 0 0 (plan_cost_call kind k period total reports) tenths.old)
-        × (cents.new ≡ heldAfter 0 1 (plan_cost_call kind k period total reports) cents.old) }
+        × (tenths.new ≡ held_after 0 0 (plan_cost_call kind k period total reports) tenths.old)
+        × (cents.new ≡ held_after 0 1 (plan_cost_call kind k period total reports) cents.old) }
 {
     let Named::Plan(p) = plan_named(kind, k, period, total) else {
         return refusal::NOT_PROPER;
@@ -312,8 +312,8 @@ fn flat_cost(
     cents: &mut u64,
 ) -> u32
     ensures { (result ≡ (cycle_cost_call spec_bytes.now (pairs_of words.now) reports).number)
-        × (tenths.new ≡ heldAfter 0 0 (cycle_cost_call spec_bytes.now (pairs_of words.now) reports) tenths.old)
-        × (cents.new ≡ heldAfter 0 1 (cycle_cost_call spec_bytes.now (pairs_of words.now) reports) cents.old) }
+        × (tenths.new ≡ held_after 0 0 (cycle_cost_call spec_bytes.now (pairs_of words.now) reports) tenths.old)
+        × (cents.new ≡ held_after 0 1 (cycle_cost_call spec_bytes.now (pairs_of words.now) reports) cents.old) }
 {
     let read = spec::read_spec(spec_bytes);
     let SpecRead::Accepted(s) = read else {
@@ -332,8 +332,8 @@ pub extern "C" fn maxeltu_cycle_cost(
     cents: &mut u64,
 ) -> u32
     ensures { (result ≡ (cycle_cost_call spec_bytes.now pairs.now reports).number)
-        × (tenths.new ≡ heldAfter 0 0 (cycle_cost_call spec_bytes.now pairs.now reports) tenths.old)
-        × (cents.new ≡ heldAfter 0 1 (cycle_cost_call spec_bytes.now pairs.now reports) cents.old) }
+        × (tenths.new ≡ held_after 0 0 (cycle_cost_call spec_bytes.now pairs.now reports) tenths.old)
+        × (cents.new ≡ held_after 0 1 (cycle_cost_call spec_bytes.now pairs.now reports) cents.old) }
 {
     let mut words = [0u16; 1024];
     let used = pairs::unpack(pairs, &mut words);
@@ -422,7 +422,7 @@ pub extern "C" fn maxeltu_week_table(table: &[u16]) -> u32
 #[unsafe(no_mangle)]
 pub extern "C" fn maxeltu_calendar_minute(table: &[u16], duty: u32, calendar: &mut u64) -> u32
     ensures { (result ≡ (calendar_call table.now duty).number)
-        × (calendar.new ≡ heldAfter 0 0 (calendar_call table.now duty) calendar.old) }
+        × (calendar.new ≡ held_after 0 0 (calendar_call table.now duty) calendar.old) }
 {
     answers::calendar_answer(duty::calendar_minute(duty::table_of(table), duty), calendar)
 }
@@ -431,7 +431,7 @@ pub extern "C" fn maxeltu_calendar_minute(table: &[u16], duty: u32, calendar: &m
 #[unsafe(no_mangle)]
 pub extern "C" fn maxeltu_duty_minute(table: &[u16], calendar: u32, duty: &mut u32) -> u32
     ensures { (result ≡ (duty_call table.now calendar).number)
-        × (duty.new ≡ heldAfter 0 0 (duty_call table.now calendar) duty.old) }
+        × (duty.new ≡ held_after 0 0 (duty_call table.now calendar) duty.old) }
 {
     answers::duty_answer(duty::duty_minute(duty::table_of(table), calendar), duty)
 }

@@ -30,7 +30,7 @@ use Rattle.feasibility.specs.Test.{test_of, test_consistent, test_taken, figure_
 use Rattle.even.specs.declared.EvenPlan.{EvenPlan}
 use Rattle.even.specs.declared.EvenPlan.TheVariants.{Found, Refused}
 use Rattle.even.specs.Even.{even_plan, plan_or10, even_plan_at, even_gap, largest, fits, supply_fits, demand_fits, total_of, count_at}
-use Rattle.answers.specs.Answers.{Answer, consistencyAnswer, scheduledAnswer, testedAnswer, evenAnswer, numberAnswer, contentsAnswer, billAnswer}
+use Rattle.answers.specs.Answers.{Answer, consistency_answer, scheduled_answer, tested_answer, even_answer, number_answer, contents_answer, bill_answer}
 use Rattle.lateness.specs.Lateness.{late_gap_allowed, late_supply, late_demand, lateness_number}
 use Rattle.pairs.specs.declared.Pair.{Pair}
 use Rattle.cycle.specs.Cycles.{pair_gap, pair_size, cycle_run, round}
@@ -106,14 +106,14 @@ even = 1
 
 -- the way back from minutes
 minute_is : Plan → (minute last nearest : ℕ) → Bool
-minute_is p m i j = answer_is (numberAnswer (last_of p m)) 0 (i ∷ []) && answer_is (numberAnswer (nearest_of p m)) 0 (j ∷ [])
+minute_is p m i j = answer_is (number_answer (last_of p m)) 0 (i ∷ []) && answer_is (number_answer (nearest_of p m)) 0 (j ∷ [])
 
 between_is : Plan → (a b reports records : ℕ) → Bool
-between_is p a b n d = answer_is (contentsAnswer (between_of p a b)) 0 (n ∷ d ∷ [])
+between_is p a b n d = answer_is (contents_answer (between_of p a b)) 0 (n ∷ d ∷ [])
 
 -- what the first reports cost
 bill_is : Bill → (tenths cents : ℕ) → Bool
-bill_is b t c = answer_is (billAnswer b) 0 (t ∷ c ∷ [])
+bill_is b t c = answer_is (bill_answer b) 0 (t ∷ c ∷ [])
 
 -- of the plan of a schedule, and of an even plan
 of_schedule : Scheduled → (Plan → Bool) → Bool
@@ -160,17 +160,17 @@ answers_are [] (x ∷ xs) = false
 answers_are (a ∷ more) [] = false
 
 claim_holds : Spec → Claim → Bool
-claim_holds s (consistency_gets n) = answer_is (consistencyAnswer (consistency_of s)) n []
-claim_holds s (consistency_fails c) = answer_is (consistencyAnswer (consistency_of s)) 7 (c ∷ [])
-claim_holds s (minimum_demand k π δ v) = answer_is (scheduledAnswer (schedule_for MinimumDemand s k)) 0 (well_formed ∷ k ∷ π ∷ δ ∷ v ∷ [])
+claim_holds s (consistency_gets n) = answer_is (consistency_answer (consistency_of s)) n []
+claim_holds s (consistency_fails c) = answer_is (consistency_answer (consistency_of s)) 7 (c ∷ [])
+claim_holds s (minimum_demand k π δ v) = answer_is (scheduled_answer (schedule_for MinimumDemand s k)) 0 (well_formed ∷ k ∷ π ∷ δ ∷ v ∷ [])
 claim_holds s (minimum_demand_reports k minutes sizes) = of_schedule (schedule_for MinimumDemand s k) (λ p. reports_are p 0 minutes sizes)
-claim_holds s (maximum_supply k π δ v) = answer_is (scheduledAnswer (schedule_for MaximumSupply s k)) 0 (well_formed ∷ k ∷ π ∷ δ ∷ v ∷ [])
-claim_holds s (test_passes k π δ v) = answer_is (testedAnswer (test_of s)) 0 (well_formed ∷ k ∷ π ∷ δ ∷ v ∷ [])
-claim_holds s (test_refuses n) = answer_is (testedAnswer (test_of s)) n []
-claim_holds s (test_fails c) = answer_is (testedAnswer (test_of s)) 7 (c ∷ [])
-claim_holds s (even_gives g k δ) = answer_is (evenAnswer (even_plan s)) 0 (even ∷ k ∷ k * g ∷ δ ∷ [])
+claim_holds s (maximum_supply k π δ v) = answer_is (scheduled_answer (schedule_for MaximumSupply s k)) 0 (well_formed ∷ k ∷ π ∷ δ ∷ v ∷ [])
+claim_holds s (test_passes k π δ v) = answer_is (tested_answer (test_of s)) 0 (well_formed ∷ k ∷ π ∷ δ ∷ v ∷ [])
+claim_holds s (test_refuses n) = answer_is (tested_answer (test_of s)) n []
+claim_holds s (test_fails c) = answer_is (tested_answer (test_of s)) 7 (c ∷ [])
+claim_holds s (even_gives g k δ) = answer_is (even_answer (even_plan s)) 0 (even ∷ k ∷ k * g ∷ δ ∷ [])
 claim_holds s (even_reports minutes sizes) = of_even (even_plan s) (λ p. reports_are p 0 minutes sizes)
-claim_holds s (even_refuses n) = answer_is (evenAnswer (even_plan s)) n []
+claim_holds s (even_refuses n) = answer_is (even_answer (even_plan s)) n []
 claim_holds s (minimum_demand_minute k m i j) = of_schedule (schedule_for MinimumDemand s k) (λ p. minute_is p m i j)
 claim_holds s (minimum_demand_between k a b n d) = of_schedule (schedule_for MinimumDemand s k) (λ p. between_is p a b n d)
 claim_holds s (even_minute m i j) = of_even (even_plan s) (λ p. minute_is p m i j)
@@ -180,7 +180,7 @@ claim_holds s (even_costs n t c) = of_even (even_plan s) (λ p. bill_is (plan_bi
 claim_holds s (cycle_gets c n) = eqb (check_number s c) n
 claim_holds s (late_gets c lateness n) = eqb (late_number s lateness c) n
 claim_holds s (cycle_costs ps n t c) = bill_is (cycle_bill s ps n) t c
-claim_holds s (cycle_not_billed ps n number) = answer_is (billAnswer (cycle_bill s ps n)) number []
+claim_holds s (cycle_not_billed ps n number) = answer_is (bill_answer (cycle_bill s ps n)) number []
 claim_holds s (offers_get offers) = answers_are (plain_answers s [] (offered offers)) offers
 claim_holds s (is_read_from file) = read_to (read_spec file) s
 

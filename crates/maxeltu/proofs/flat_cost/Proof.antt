@@ -2,7 +2,7 @@
 use mathlib.Core.Path.{refl}
 use Rattle.pairs.specs.Pairs.{pairs_of}
 use Rattle.cost.specs.Bills.{cycle_bill}
-use Rattle.answers.specs.Answers.{billAnswer}
+use Rattle.answers.specs.Answers.{bill_answer}
 use Rattle.answers.proofs.Places.{after_refusal}
 use Rattle.maxeltu.specs.Calls.{cycle_cost_call}
 use Rattle.maxeltu.proofs.GivenSpec.{not_read, was_read}
@@ -26,7 +26,7 @@ returns : tie.Need-returns
 unfolding cycle_cost_call
 returns c =
     let start = c.before.before.before.before.before.before in
-    rw (← not_read c.before.before.before.read_spec.ensures (λ s. billAnswer (cycle_bill s (pairs_of start.args.words.now) start.args.reports)) c.before.enum_told.given.1 c.read_number.ensures)
+    rw (← not_read c.before.before.before.read_spec.ensures (λ s. bill_answer (cycle_bill s (pairs_of start.args.words.now) start.args.reports)) c.before.enum_told.given.1 c.read_number.ensures)
     (refl, after_refusal _ _ _ _, after_refusal _ _ _ _)
 
 cycle-cost-requires : tie.Need-cycle-cost-requires
@@ -40,7 +40,7 @@ unfolding cycle_cost_call
 returns-2 c =
     let read = c.before.before.before.before.before in
     let start = read.before.before.before.before.before in
-    rw (← was_read read.before.before.read_spec.ensures (λ s. billAnswer (cycle_bill s (pairs_of start.args.words.now) start.args.reports)) read.read.given.1, ← c.before.before.before.cycle-cost.ensures)
+    rw (← was_read read.before.before.read_spec.ensures (λ s. bill_answer (cycle_bill s (pairs_of start.args.words.now) start.args.reports)) read.read.given.1, ← c.before.before.before.cycle-cost.ensures)
     c.bill-answer.ensures
 
 pub flat-cost-spec : {M : Type 1} → statement M

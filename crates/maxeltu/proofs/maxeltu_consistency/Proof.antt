@@ -3,7 +3,7 @@ use mathlib.Core.Path.{refl}
 use Rattle.maxeltu.specs.Calls.{consistency_call}
 use Rattle.answers.proofs.Places.{after_refusal}
 use Rattle.maxeltu.proofs.GivenSpec.{not_read, was_read}
-use Rattle.answers.specs.Answers.{consistencyAnswer}
+use Rattle.answers.specs.Answers.{consistency_answer}
 use Rattle.consistency.specs.Consistency.{consistency_of}
 use borrow.Author.Rules.{rules}
 use Rattle.maxeltu.proofs.maxeltu_consistency.Statement.{statement}
@@ -23,7 +23,7 @@ read-number-requires c κs = search rules
 
 returns : tie.Need-returns
 unfolding consistency_call
-returns c = rw (← not_read c.before.before.before.read_spec.ensures (λ s. consistencyAnswer (consistency_of s)) c.before.enum_told.given.1 c.read_number.ensures) (refl, after_refusal _ _ _ _)
+returns c = rw (← not_read c.before.before.before.read_spec.ensures (λ s. consistency_answer (consistency_of s)) c.before.enum_told.given.1 c.read_number.ensures) (refl, after_refusal _ _ _ _)
 
 consistency-of-requires : tie.Need-consistency-of-requires
 consistency-of-requires c κs = search rules
@@ -33,7 +33,7 @@ consistency-answer-requires c κs = search rules
 
 returns-2 : tie.Need-returns-2
 unfolding consistency_call
-returns-2 c = rw (← was_read c.before.before.before.before.before.before.read_spec.ensures (λ s. consistencyAnswer (consistency_of s)) c.before.before.before.before.read.given.1, ← c.before.before.consistency-of.ensures) c.consistency-answer.ensures
+returns-2 c = rw (← was_read c.before.before.before.before.before.before.read_spec.ensures (λ s. consistency_answer (consistency_of s)) c.before.before.before.before.read.given.1, ← c.before.before.consistency-of.ensures) c.consistency-answer.ensures
 
 pub maxeltu-consistency-spec : {M : Type 1} → statement M
 maxeltu-consistency-spec =

@@ -49,7 +49,7 @@ use Rattle.pairs.proofs.Calls.{Unpack, lent, calls_unpack}
 use Rattle.pairs.proofs.unpack.Symbol as unpack-def
 use Rattle.pairs.proofs.unpack.Symbol.{name as #pairs·unpack}
 use Rattle.pairs.proofs.unpack.Met as unpack-thm
-use Rattle.answers.specs.Answers.{Answer, heldAfter}
+use Rattle.answers.specs.Answers.{Answer, held_after}
 use Rattle.maxeltu.specs.Calls.{cycle_cost_call}
 use Rattle.maxeltu.proofs.GivenSpec.{fit_cost}
 use Rattle.maxeltu.specs.contracts.flat_cost as flat
@@ -133,7 +133,7 @@ module _ {M : Type 1} {𝓤 : Ura M} (𝓛 : Logic 𝓤) (mem : Memory → SProp
 
   -- that number and places are those of an answer
   abbrev Answers : Answer → ℕ → ℕ → ℕ → Type 0
-  Answers a r tenths' cents' = (r ≡ a.number) × (tenths' ≡ heldAfter 0 0 a tenths) × (cents' ≡ heldAfter 0 1 a cents)
+  Answers a r tenths' cents' = (r ≡ a.number) × (tenths' ≡ held_after 0 0 a tenths) × (cents' ≡ held_after 0 1 a cents)
 
   -- the bill is that of the pairs: those that fit 512 get it, and more get that of none
   billed-is : (used : ℕ) (ws : List ℕ) (r tenths' cents' : ℕ) → Unpacks ps zeros used ws → Answers (cycle_cost_call bs (pairs_of (take used ws)) n) r tenths' cents' → Answers (cycle_cost_call bs ps n) r tenths' cents'

@@ -3,7 +3,7 @@ use mathlib.Core.Path.{refl}
 use Rattle.maxeltu.specs.Calls.{schedule_call}
 use Rattle.answers.proofs.Places.{after_refusal}
 use Rattle.maxeltu.proofs.GivenSpec.{not_read, was_read}
-use Rattle.answers.specs.Answers.{scheduledAnswer}
+use Rattle.answers.specs.Answers.{scheduled_answer}
 use Rattle.families.specs.Families.{schedule_for}
 use Rattle.families.specs.declared.Family.TheVariants.{MaximumSupply}
 use borrow.Author.Rules.{rules}
@@ -24,7 +24,7 @@ read-number-requires c κs = search rules
 
 returns : tie.Need-returns
 unfolding schedule_call
-returns c = rw (← not_read c.before.before.before.read_spec.ensures (λ s. scheduledAnswer (schedule_for MaximumSupply s c.before.before.before.before.before.args.k)) c.before.enum_told.given.1 c.read_number.ensures) (refl, after_refusal _ _ _ _, after_refusal _ _ _ _, after_refusal _ _ _ _)
+returns c = rw (← not_read c.before.before.before.read_spec.ensures (λ s. scheduled_answer (schedule_for MaximumSupply s c.before.before.before.before.before.args.k)) c.before.enum_told.given.1 c.read_number.ensures) (refl, after_refusal _ _ _ _, after_refusal _ _ _ _, after_refusal _ _ _ _)
 
 schedule-for-requires : tie.Need-schedule-for-requires
 schedule-for-requires c κs = search rules
@@ -34,7 +34,7 @@ schedule-answer-requires c κs = search rules
 
 returns-2 : tie.Need-returns-2
 unfolding schedule_call
-returns-2 c = rw (← was_read c.before.before.before.before.before.before.before.before.read_spec.ensures (λ s. scheduledAnswer (schedule_for MaximumSupply s c.before.before.before.before.before.before.before.before.before.before.args.k)) c.before.before.before.before.before.before.read.given.1, ← c.before.before.before.before.schedule-for.ensures) c.schedule-answer.ensures
+returns-2 c = rw (← was_read c.before.before.before.before.before.before.before.before.read_spec.ensures (λ s. scheduled_answer (schedule_for MaximumSupply s c.before.before.before.before.before.before.before.before.before.before.args.k)) c.before.before.before.before.before.before.read.given.1, ← c.before.before.before.before.schedule-for.ensures) c.schedule-answer.ensures
 
 pub maxeltu-max-supply-spec : {M : Type 1} → statement M
 maxeltu-max-supply-spec =

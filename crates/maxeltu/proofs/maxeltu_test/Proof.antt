@@ -3,7 +3,7 @@ use mathlib.Core.Path.{refl}
 use Rattle.maxeltu.specs.Calls.{test_call}
 use Rattle.answers.proofs.Places.{after_refusal}
 use Rattle.maxeltu.proofs.GivenSpec.{not_read, was_read}
-use Rattle.answers.specs.Answers.{testedAnswer}
+use Rattle.answers.specs.Answers.{tested_answer}
 use Rattle.feasibility.specs.Test.{test_of}
 use borrow.Author.Rules.{rules}
 use Rattle.maxeltu.proofs.maxeltu_test.Statement.{statement}
@@ -23,7 +23,7 @@ read-number-requires c κs = search rules
 
 returns : tie.Need-returns
 unfolding test_call
-returns c = rw (← not_read c.before.before.before.read_spec.ensures (λ s. testedAnswer (test_of s)) c.before.enum_told.given.1 c.read_number.ensures) (refl, after_refusal _ _ _ _, after_refusal _ _ _ _, after_refusal _ _ _ _, after_refusal _ _ _ _, after_refusal _ _ _ _)
+returns c = rw (← not_read c.before.before.before.read_spec.ensures (λ s. tested_answer (test_of s)) c.before.enum_told.given.1 c.read_number.ensures) (refl, after_refusal _ _ _ _, after_refusal _ _ _ _, after_refusal _ _ _ _, after_refusal _ _ _ _, after_refusal _ _ _ _)
 
 test-requires : tie.Need-test-requires
 test-requires c κs = search rules
@@ -33,7 +33,7 @@ test-answer-requires c κs = search rules
 
 returns-2 : tie.Need-returns-2
 unfolding test_call
-returns-2 c = rw (← was_read c.before.before.before.before.before.before.before.before.before.before.read_spec.ensures (λ s. testedAnswer (test_of s)) c.before.before.before.before.before.before.before.before.read.given.1, ← c.before.before.before.before.before.before.test.ensures) c.test-answer.ensures
+returns-2 c = rw (← was_read c.before.before.before.before.before.before.before.before.before.before.read_spec.ensures (λ s. tested_answer (test_of s)) c.before.before.before.before.before.before.before.before.read.given.1, ← c.before.before.before.before.before.before.test.ensures) c.test-answer.ensures
 
 pub maxeltu-test-spec : {M : Type 1} → statement M
 maxeltu-test-spec =

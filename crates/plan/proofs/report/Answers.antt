@@ -5,12 +5,12 @@ use borrow.Author.Tests.{not-true, not-false}
 use native.Mathlib.Nat.{div-le_self}
 use Rattle.spec.proofs.Products.{fits_mul}
 use Rattle.plan.proofs.Proper.{tested_bounds}
-use Rattle.plan.proofs.Answers.{not-proper, well-reported, even-reported}
+use Rattle.plan.proofs.Answers.{not_proper, well_reported, even_reported}
 use borrow.Author.Rules.{rules}
 use Rattle.plan.proofs.report.Goals as goal
 
 pub returns-then-not-is_proper : goal.returns-then-not-is_proper
-returns-then-not-is_proper c = not-proper _ _ (sym c.is_proper.ensures ∙ c.if-not-is_proper.true)
+returns-then-not-is_proper c = not_proper _ _ (sym c.is_proper.ensures ∙ c.if-not-is_proper.true)
 
 pub well_minute-requires : goal.well_minute-requires
 well_minute-requires c = let b = tested_bounds _ c.is_proper.ensures c.if-not-is_proper.false in search rules
@@ -31,7 +31,7 @@ pub overflow_cast-result-in-Even : goal.overflow_cast-result-in-Even
 overflow_cast-result-in-Even c = let b = tested_bounds _ c.is_proper.ensures c.if-not-is_proper.false in omega (arith, c.even_size.ensures.1)
 
 pub returns-in-WellFormed : goal.returns-in-WellFormed
-returns-in-WellFormed c = well-reported _ _ (sym c.is_proper.ensures ∙ c.if-not-is_proper.false) c.in-WellFormed.is c.well_minute.ensures c.well_size.ensures.0
+returns-in-WellFormed c = well_reported _ _ (sym c.is_proper.ensures ∙ c.if-not-is_proper.false) c.in-WellFormed.is c.well_minute.ensures c.well_size.ensures.0
 
 pub returns-in-Even : goal.returns-in-Even
-returns-in-Even c = even-reported _ _ (sym c.is_proper.ensures ∙ c.if-not-is_proper.false) c.in-Even.is refl c.even_size.ensures.0
+returns-in-Even c = even_reported _ _ (sym c.is_proper.ensures ∙ c.if-not-is_proper.false) c.in-Even.is refl c.even_size.ensures.0

@@ -1,0 +1,13 @@
+-- By cases on the answer: each place is written with its value, or not at all.
+use mathlib.Core.Path.{refl}
+use Rattle.answers.specs.Answers.{held_after}
+use Rattle.answers.proofs.Places.{after_refusal}
+use borrow.Author.Rules.{rules}
+use Rattle.answers.proofs.schedule_answer.Goals as goal
+
+pub returns-in-Found : goal.returns-in-Found
+unfolding held_after
+returns-in-Found c = rw c.in-Found.is (refl, refl, refl, refl)
+
+pub returns-in-Refused : goal.returns-in-Refused
+returns-in-Refused c = rw c.in-Refused.is (refl, after_refusal _ _ _ _, after_refusal _ _ _ _, after_refusal _ _ _ _)
