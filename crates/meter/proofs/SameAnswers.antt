@@ -4,7 +4,7 @@
 use Prim.Native.Nat.{ℕ, ◌+◌, ◌-◌, ◌≤◌, max}
 use native.Mathlib.Omega.{arith}
 use native.Mathlib.Nat.{add_comm}
-use mathlib.Core.Path.{◌≡◌, refl, ◌∙◌, ap, subst}
+use mathlib.Core.Path.{◌≡◌, refl, sym, ◌∙◌, ap, subst}
 use mathlib.Core.Logic.{⊎_elim}
 use mathlib.Core.Bool.{Bool, true, false, cond, not, and-false, and-eq-true_iff}
 use mathlib.Core.List.{List, [], ◌∷◌}
@@ -68,9 +68,10 @@ left_more : (rate : Rate) (l : List Report) (x : Report) → rate_limits rate �
 unfolding budget_left later counted_at
 left_more Absent l x e = refl
 left_more (Present b r) l x e =
-    let m : max x.minute x.minute ≡ x.minute = omega arith in
+    let now : later (x ∷ l) x.minute ≡ x.minute = omega arith in
     let k = some_minutes b r e in
-    rw (ne_eqb r 0 (omega arith), m, is_in r x.minute x.minute (omega arith) (omega arith), add_comm x.size)
+    rw (ne_eqb r 0 (omega arith), now, is_in r x.minute x.minute (omega arith) (omega arith), add_comm x.size)
+    (ap (λ (t : ℕ). Records (b - (records_at (ending_with r t) l + x.size))) (sym now))
 
 -- of tests in a row only those that are come to must agree
 first_same : (early outside over over' full full' : Bool) → (early ≡ false → outside ≡ false → over ≡ over') → (early ≡ false → full ≡ full')

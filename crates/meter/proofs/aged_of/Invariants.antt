@@ -13,7 +13,7 @@ use Rattle.meter.proofs.aged_of.Given as goal
 
 abbrev pub invariant-loop-k : goal.invariant-loop-k
 invariant-loop-k l =
-    (l.k ≤ l.count) × (l.k + aged_from (ring_report l.minutes l.sizes l.first) l.w l.t (l.count - l.k) l.k ≡ aged_from (ring_report l.minutes l.sizes l.first) l.w l.t l.count 0)
+    (l.k ≤ l.count) × (l.k + aged_from (ring_report l.minutes l.sizes l.first) l.window l.t (l.count - l.k) l.k ≡ aged_from (ring_report l.minutes l.sizes l.first) l.window l.t l.count 0)
     × (l.records ≡ sum (λ i. (ring_report l.minutes l.sizes l.first i).size) l.k) × (l.records ≤ 65535 * l.k)
 
 abbrev pub decreases-loop-k : goal.decreases-loop-k

@@ -16,37 +16,31 @@ use Rattle.meter.specs.Plain.{first_of}
 use Rattle.meter.specs.Ring.{aged, used, early_of, ring_number}
 use Rattle.meter.proofs.Offers.{Passed, passed}
 use Rattle.meter.proofs.Steps.{aged_is, used_is, number_is, step_refused, step_accepted, ways_meet}
-use Rattle.meter.proofs.step.Goals.{After-aged_of-aged, After-first_of-number, Start, Then-number-eq0}
+use Rattle.meter.proofs.step.Goals.{After-first_of-number, then-number-eq0, else-number-eq0}
 use Rattle.meter.proofs.step.Goals as goal
 
 -- what is known when the number is found
 module _ (c : After-first_of-number) where
-  abbrev walked : After-aged_of-aged
-  walked = c
-
-  abbrev start : Start
-  start = walked
-
   abbrev m : Meter
-  m = start.args.m
+  m = c.args.m
 
   abbrev t : ℕ
-  t = start.args.minute
+  t = c.args.minute
 
   abbrev d : ℕ
-  d = start.args.size
+  d = c.args.size
 
   abbrev out : ℕ
-  out = walked.aged_of-aged.result.count
+  out = c.aged_of-aged.result.count
 
   abbrev held : ℕ
   held = c.less-used.result
 
   out-is : out ≡ aged m t
-  out-is = aged_is m t out _ walked.Later-of.ensures walked.aged_of-aged.ensures.0
+  out-is = aged_is m t out _ c.later_of-t.ensures c.aged_of-aged.ensures.0
 
   held-is : held ≡ used m t
-  held-is = used_is m t out walked.aged_of-aged.result.records held out-is walked.aged_of-aged.ensures.2 c.less-used.ensures
+  held-is = used_is m t out c.aged_of-aged.result.records held out-is c.aged_of-aged.ensures.2 c.less-used.ensures
 
   judged : c.first_of-number.result ≡ first_of (early_of m.count m.last m.smin t) (not (between m.dmin m.dmax d)) (ltb m.budget (held + d)) (leb 1024 (m.count - out))
   judged =
@@ -56,29 +50,14 @@ module _ (c : After-first_of-number) where
   found : c.first_of-number.result ≡ ring_number m t d
   found = number_is m t d out held c.first_of-number.result out-is held-is judged
 
--- what an offer that is accepted has passed: what is stored fits
-module _ (c : Then-number-eq0) where
-  abbrev at : After-first_of-number
-  at = c
-
-  tests : Passed (early_of (m at).count (m at).last (m at).smin (t at)) (not (between (m at).dmin (m at).dmax (d at))) (ltb (m at).budget (held at + d at)) (leb 1024 ((m at).count - out at))
-  tests = passed _ _ _ _ (sym (judged at) ∙ c.if-number-eq0.true)
-
-  size-most : d at ≤ 65535
-  size-most = omega (arith, ((between_iff (m at).dmin (m at).dmax (d at)).0 (not-false _ tests.in_range)).1)
-
-  records-most : held at + d at ≤ (m at).budget
-  records-most = ltb-false (m at).budget (held at + d at) tests.in_budget
-
-  count_most : (m at).count - out at < 1024
-  count_most = leb-false 1024 ((m at).count - out at) tests.has_place
-
 pub returns : goal.returns
 returns c =
-    let end = c in
-    ⊎_elim
-    (λ w.
-    ways_meet _ _ _ _ _ _ w.4 w.5 c.left_of-left.ensures
-    ∙ step_accepted (m end) (t end) (d end) _ _ _ _ _ (found end) w.0.true (out-is end) (held-is end) w.2.ensures.0 w.1.ensures.0)
-    (λ w. ways_meet _ _ _ _ _ _ w.1 w.2 c.left_of-left.ensures ∙ step_refused (m end) (t end) (d end) _ _ (found end) w.0.left (held-is end))
-    c.if-number-eq0.branch
+    let end = (goal.at.returns c).After-first_of-number in
+    elim c.if-number-eq0.branch [
+      then-number-eq0 w ↦
+          ways_meet _ _ _ _ _ _ w.next-is w.records-is c.left_of-left.ensures
+          ∙ step_accepted (m end) (t end) (d end) _ _ _ _ _ (found end) w.if-number-eq0.true (out-is end) (held-is end) w.place.ensures.0 w.place-at.ensures.0
+    | else-number-eq0 w ↦
+          ways_meet _ _ _ _ _ _ w.next-is w.records-is c.left_of-left.ensures
+          ∙ step_refused (m end) (t end) (d end) _ _ (found end) w.if-number-eq0.false (held-is end)
+    ]
