@@ -1,3 +1,4 @@
 pub mod GivenSpec
 pub mod VerdictCases
 pub mod ListReadings
+pub mod LocalWords

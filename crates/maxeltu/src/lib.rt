@@ -25,8 +25,7 @@ use plan::{Kind, Plan, moments};
 use spec::{SpecRead, refusal};
 
 // The loader's call: 0 exactly when both files are read and the cycle is passed, or the first number met, the specification's first.
-#[unsafe(no_mangle)]
-pub extern "C" fn maxeltu_verdict(spec_bytes: &[u8], cycle_bytes: &[u8]) -> u32
+pub fn maxeltu_verdict(spec_bytes: &[u8], cycle_bytes: &[u8]) -> u32
     ensures { result ≡ verdict_of spec_bytes.now cycle_bytes.now }
 {
     let read = spec::read_spec(spec_bytes);
@@ -44,8 +43,7 @@ pub extern "C" fn maxeltu_verdict(spec_bytes: &[u8], cycle_bytes: &[u8]) -> u32
 }
 
 // Whether a specification's file is consistent.
-#[unsafe(no_mangle)]
-pub extern "C" fn maxeltu_consistency(spec_bytes: &[u8], condition: &mut u32) -> u32
+pub fn maxeltu_consistency(spec_bytes: &[u8], condition: &mut u32) -> u32
     ensures { (result ≡ (consistency_call spec_bytes.now).number)
         × (condition.new ≡ held_after 7 0 (consistency_call spec_bytes.now) condition.old) }
 {
@@ -57,8 +55,7 @@ pub extern "C" fn maxeltu_consistency(spec_bytes: &[u8], condition: &mut u32) ->
 }
 
 // The minimum demand schedule with k reports of a specification's file, and its required supply.
-#[unsafe(no_mangle)]
-pub extern "C" fn maxeltu_min_demand(
+pub fn maxeltu_min_demand(
     spec_bytes: &[u8],
     k: u32,
     period: &mut u32,
@@ -83,8 +80,7 @@ pub extern "C" fn maxeltu_min_demand(
 }
 
 // The maximum supply schedule with k reports of a specification's file, and its available supply.
-#[unsafe(no_mangle)]
-pub extern "C" fn maxeltu_max_supply(
+pub fn maxeltu_max_supply(
     spec_bytes: &[u8],
     k: u32,
     period: &mut u32,
@@ -109,8 +105,7 @@ pub extern "C" fn maxeltu_max_supply(
 }
 
 // The test of a specification's file: the plan that it passes, with its required or available supply.
-#[unsafe(no_mangle)]
-pub extern "C" fn maxeltu_test(
+pub fn maxeltu_test(
     spec_bytes: &[u8],
     condition: &mut u32,
     k: &mut u32,
@@ -133,8 +128,7 @@ pub extern "C" fn maxeltu_test(
 }
 
 // The even plan of a specification's file.
-#[unsafe(no_mangle)]
-pub extern "C" fn maxeltu_even_plan(
+pub fn maxeltu_even_plan(
     spec_bytes: &[u8],
     k: &mut u32,
     period: &mut u32,
@@ -183,8 +177,7 @@ fn plan_named(kind: u32, k: u32, period: u32, total: u32) -> Named
 }
 
 // Minute and size of report i of a plan.
-#[unsafe(no_mangle)]
-pub extern "C" fn maxeltu_report(
+pub fn maxeltu_report(
     kind: u32,
     k: u32,
     period: u32,
@@ -204,8 +197,7 @@ pub extern "C" fn maxeltu_report(
 }
 
 // The last report of a plan at or before a minute.
-#[unsafe(no_mangle)]
-pub extern "C" fn maxeltu_last_report(
+pub fn maxeltu_last_report(
     kind: u32,
     k: u32,
     period: u32,
@@ -223,8 +215,7 @@ pub extern "C" fn maxeltu_last_report(
 }
 
 // The report of a plan that is nearest to a minute, the earlier of two equally near.
-#[unsafe(no_mangle)]
-pub extern "C" fn maxeltu_nearest_report(
+pub fn maxeltu_nearest_report(
     kind: u32,
     k: u32,
     period: u32,
@@ -242,8 +233,7 @@ pub extern "C" fn maxeltu_nearest_report(
 }
 
 // How many reports and records of a plan lie from minute a up to but not including b.
-#[unsafe(no_mangle)]
-pub extern "C" fn maxeltu_between(
+pub fn maxeltu_between(
     kind: u32,
     k: u32,
     period: u32,
@@ -264,8 +254,7 @@ pub extern "C" fn maxeltu_between(
 }
 
 // What the first reports of a plan cost.
-#[unsafe(no_mangle)]
-pub extern "C" fn maxeltu_plan_cost(
+pub fn maxeltu_plan_cost(
     kind: u32,
     k: u32,
     period: u32,
@@ -285,8 +274,7 @@ pub extern "C" fn maxeltu_plan_cost(
 }
 
 // The number of a lent list of pairs against a specification's file, on time.
-#[unsafe(no_mangle)]
-pub extern "C" fn maxeltu_check_cycle(spec_bytes: &[u8], pairs: &[Pair]) -> u32
+pub fn maxeltu_check_cycle(spec_bytes: &[u8], pairs: &[Pair]) -> u32
     ensures { result ≡ check_file_number (read_spec spec_bytes.now) pairs.now }
 {
     maxeltu_check_late(spec_bytes, pairs, 0)
@@ -294,8 +282,7 @@ pub extern "C" fn maxeltu_check_cycle(spec_bytes: &[u8], pairs: &[Pair]) -> u32
 
 // The same where each report may arrive up to `lateness` minutes late. The list is unpacked once, into the one array that is held, and the
 // flat check called.
-#[unsafe(no_mangle)]
-pub extern "C" fn maxeltu_check_late(spec_bytes: &[u8], pairs: &[Pair], lateness: u32) -> u32
+pub fn maxeltu_check_late(spec_bytes: &[u8], pairs: &[Pair], lateness: u32) -> u32
     ensures { result ≡ late_file_number (read_spec spec_bytes.now) lateness pairs.now }
 {
     let mut words = [0u16; 1024];
@@ -323,8 +310,7 @@ fn flat_cost(
 }
 
 // What the first reports of a lent list of pairs cost, against a specification's file. The list is unpacked once.
-#[unsafe(no_mangle)]
-pub extern "C" fn maxeltu_cycle_cost(
+pub fn maxeltu_cycle_cost(
     spec_bytes: &[u8],
     pairs: &[Pair],
     reports: u32,
@@ -366,8 +352,7 @@ fn read_words(file: &[u8], places: usize, words: &mut [u16], count: &mut u32) ->
 }
 
 // Reads a cycle file into a lent list of pairs. Nothing is stored there before the whole file is read.
-#[unsafe(no_mangle)]
-pub extern "C" fn maxeltu_read_cycle(file: &[u8], places: &mut [Pair], count: &mut u32) -> u32
+pub fn maxeltu_read_cycle(file: &[u8], places: &mut [Pair], count: &mut u32) -> u32
     ensures { Reads (read_cycle (length places.old) file.now) places.old count.old result places.new count.new }
 {
     let mut words = [0u16; 1024];
@@ -378,8 +363,7 @@ pub extern "C" fn maxeltu_read_cycle(file: &[u8], places: &mut [Pair], count: &m
 }
 
 // Writes a lent list of pairs as a cycle file.
-#[unsafe(no_mangle)]
-pub extern "C" fn maxeltu_write_cycle(pairs: &[Pair], file: &mut [u8], written: &mut u32) -> u32
+pub fn maxeltu_write_cycle(pairs: &[Pair], file: &mut [u8], written: &mut u32) -> u32
     ensures { Writes pairs.now file.old written.old result file.new written.new }
 {
     let mut words = [0u16; 1024];
@@ -388,8 +372,7 @@ pub extern "C" fn maxeltu_write_cycle(pairs: &[Pair], file: &mut [u8], written: 
 }
 
 // Makes a meter for a specification's file: a lent one is written only where there is no refusal.
-#[unsafe(no_mangle)]
-pub extern "C" fn maxeltu_make_meter(spec_bytes: &[u8], meter: &mut Meter) -> u32
+pub fn maxeltu_make_meter(spec_bytes: &[u8], meter: &mut Meter) -> u32
     ensures { (result ≡ if_read (read_spec spec_bytes.now) (λ spec. 0) (λ n. n))
         × (meter.new ≡ if_read (read_spec spec_bytes.now) fresh (λ n. meter.old)) }
 {
@@ -401,8 +384,7 @@ pub extern "C" fn maxeltu_make_meter(spec_bytes: &[u8], meter: &mut Meter) -> u3
 }
 
 // One offer to a lent meter, which is written only where it is accepted. The budget left is told wherever there is a supply rate.
-#[unsafe(no_mangle)]
-pub extern "C" fn maxeltu_offer(meter: &mut Meter, minute: u32, size: u32, left: &mut u32) -> u32
+pub fn maxeltu_offer(meter: &mut Meter, minute: u32, size: u32, left: &mut u32) -> u32
     ensures { (result ≡ (stepped meter.old minute size).answer.number)
         × (meter.new ≡ (stepped meter.old minute size).meter)
         × (left.new ≡ told_or (stepped meter.old minute size).answer.left left.old) }
@@ -411,16 +393,14 @@ pub extern "C" fn maxeltu_offer(meter: &mut Meter, minute: u32, size: u32, left:
 }
 
 // Whether numbers are a week table that opens a minute.
-#[unsafe(no_mangle)]
-pub extern "C" fn maxeltu_week_table(table: &[u16]) -> u32
+pub fn maxeltu_week_table(table: &[u16]) -> u32
     ensures { result ≡ table_number (table_of table.now) }
 {
     duty::table_number(duty::table_of(table))
 }
 
 // The calendar minute of a duty minute.
-#[unsafe(no_mangle)]
-pub extern "C" fn maxeltu_calendar_minute(table: &[u16], duty: u32, calendar: &mut u64) -> u32
+pub fn maxeltu_calendar_minute(table: &[u16], duty: u32, calendar: &mut u64) -> u32
     ensures { (result ≡ (calendar_call table.now duty).number)
         × (calendar.new ≡ held_after 0 0 (calendar_call table.now duty) calendar.old) }
 {
@@ -428,8 +408,7 @@ pub extern "C" fn maxeltu_calendar_minute(table: &[u16], duty: u32, calendar: &m
 }
 
 // The duty minute of an open calendar minute.
-#[unsafe(no_mangle)]
-pub extern "C" fn maxeltu_duty_minute(table: &[u16], calendar: u32, duty: &mut u32) -> u32
+pub fn maxeltu_duty_minute(table: &[u16], calendar: u32, duty: &mut u32) -> u32
     ensures { (result ≡ (duty_call table.now calendar).number)
         × (duty.new ≡ held_after 0 0 (duty_call table.now calendar) duty.old) }
 {

@@ -1,0 +1,17 @@
+-- The specification is read first; then number and places are those of the operation's answer.
+use mathlib.Core.Path.{refl}
+use Rattle.maxeltu.specs.Calls.{consistency_call}
+use Rattle.answers.proofs.Places.{after_refusal}
+use Rattle.maxeltu.proofs.GivenSpec.{not_read, was_read}
+use Rattle.answers.specs.Answers.{consistency_answer}
+use Rattle.consistency.specs.Consistency.{consistency_of}
+use borrow.Author.Rules.{rules}
+use Rattle.maxeltu.proofs.maxeltu_consistency.Goals as goal
+
+pub returns-in_default : goal.returns-in_default
+unfolding consistency_call
+returns-in_default c = rw (← not_read c.read_spec-read.ensures (λ s. consistency_answer (consistency_of s)) c.in_default.is c.read_number.ensures) (refl, after_refusal _ _ _ _)
+
+pub returns : goal.returns
+unfolding consistency_call
+returns c = rw (← was_read c.read_spec-read.ensures (λ s. consistency_answer (consistency_of s)) c.in-Accepted.is, ← c.consistency_of.ensures) c.consistency_answer.ensures
