@@ -7,12 +7,13 @@ LIB = target/staticlib/libmaxeltu.a
 EVENPLAN = target/bin/evenplan
 LOADER = build/loader
 
-# What rt builds from. Folders stand among them, so that a source taken away counts too; the must-fail edits build nothing.
-SOURCES := crates.txt $(shell find crates -name must-fail -prune -o -print)
+# What rt builds from. Folders stand among them, so that a source taken away counts too; the must-fail edits build nothing, and out/ is
+# what rt made.
+SOURCES := crates.txt $(shell find crates -mindepth 2 \( -name must-fail -o -name out \) -prune -o -print)
 
 .PHONY: all lib evenplan loader demo test check bench install uninstall clean help need-rt need-gcc need-cargo
 .DELETE_ON_ERROR:
-# Two runs of rt at a time would share target/.
+# A run of rt waits for another in the same crates.
 .NOTPARALLEL:
 
 all: $(LOADER) $(EVENPLAN)
@@ -31,24 +32,24 @@ need-rt: ; @$(call need,rt,$(is_rt))
 need-gcc: ; @$(call need,gcc,$(is_gcc))
 need-cargo: ; @$(call need,cargo,$(is_cargo))
 
-# prove WORDS, LOG: rt, with what it says kept in the log, of which the end is shown where it fails.
+# prove WORD, CRATE, LOG: rt WORD in the crate's folder, with what it says kept in the log, of which the end is shown where it fails. It proves
+# the crate and those below it first, where that has not been done.
 define prove
 @$(call need,rt,$(is_rt))
-@mkdir -p build
-@echo "rt $(1) (log: $(2))"
-@rt $(1) >$(2) 2>&1 || { tail -n 30 $(2); echo "make: rt $(1) failed; $(2) has all that it said" >&2; exit 1; }
+@mkdir -p build $(@D)
+@echo "rt $(1) in crates/$(2) (log: $(3))"
+@(cd crates/$(2) && rt $(1) </dev/null) >$(3) 2>&1 || { tail -n 30 $(3); echo "make: rt $(1) failed; $(3) has all that it said" >&2; exit 1; }
 endef
 
 # The static library for C, with include/maxeltu.h.
 $(LIB): $(SOURCES)
-	$(call prove,staticlib maxeltu,build/lib.log)
+	$(call prove,lib,maxeltu_c,build/lib.log)
+	@cp crates/maxeltu_c/out/libmaxeltu_c.a $@
 
-# The program. rt links none where its stamp says that nothing has changed: so the stamp goes where the program is gone, and a
-# program that was left as it is counts from now on.
+# The program, which rt links and then runs, here on no input.
 $(EVENPLAN): $(SOURCES)
-	@[ -f $@ ] || rm -f target/stamp/evenplan
-	$(call prove,check evenplan,build/evenplan.log)
-	@touch $@
+	$(call prove,run,evenplan,build/evenplan.log)
+	@cp crates/evenplan/out/evenplan $@
 
 # The C loader over the library. Its C is compiled first: a compiler that is missing shows before anything is proved.
 $(LOADER): build/loader.o $(LIB)
@@ -84,7 +85,7 @@ uninstall:
 	rm -f "$(DESTDIR)$(PREFIX)/bin/maxeltu-loader" "$(DESTDIR)$(PREFIX)/bin/evenplan"
 
 clean:
-	rm -rf target build tests/target bench/target
+	rm -rf target build tests/target bench/target crates/*/out
 
 help:
 	@echo 'make            the library for C ($(LIB)), the loader and the program evenplan'

@@ -1,5 +1,7 @@
 // What each operation's answer is in numbers, as the C calls hand it out: the number of the refusal or 0, and the values, each stored in
 // a lent place where there is one to tell. No place is written on a refusal, but for the condition of an inconsistent specification.
+#![tactic(auto)]
+
 ghost use Rattle.std.specs.Prelude.{◌≡◌};
 ghost use Rattle.answers.specs.Answers.{condition_number, consistency_answer, scheduled_answer, tested_answer, even_answer, report_answer, number_answer, contents_answer, bill_answer, calendar_answer, duty_answer, held_after};
 

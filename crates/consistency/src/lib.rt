@@ -1,4 +1,6 @@
 // Consistency: the conditions of document 01, "Consistency", and the first of them that fails. Refusals 3, 4, 24, 25 and 7.
+#![tactic(auto)]
+
 ghost use Rattle.std.specs.Prelude.{◌≡◌};
 ghost use Rattle.spec.specs.Limits.{IsAccepted};
 ghost use Rattle.consistency.specs.Consistency.{size_fits_budget, gap_fits_demand, demand_fits_duration, bounds_fit_rates, fewest_reports_fit_budget, enough_reports_for_demand, supply_covers_demand, conditions_of, consistency_of};

@@ -4,6 +4,8 @@
 // A cycle whose reports may be late (26 after 24) gets the same check, against the specification that its planned minutes must meet (the
 // crate `lateness`). What pairs are is the crate `pairs`', their file another's; the C calls over a lent list of pairs, of which one
 // unpacks it and calls `check_late_file`, are exported by `maxeltu`.
+#![tactic(auto)]
+
 mod stretches;
 
 ghost use Rattle.std.specs.Prelude.{◌≡◌, ◌/◌, ◌<◌, ◌≤◌, length};

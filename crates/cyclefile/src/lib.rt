@@ -1,6 +1,8 @@
 // The cycle file: what it is (specs/File.antt), that what is written reads back and what is read was written so, and a file's bytes read
 // into a flat slice, where gap and size alternate. Writing is the crate `writer`'s; the call over a lent list of pairs is exported by
 // `maxeltu`. What a cycle's gaps and sizes may be is left to the check of cycles. Refusals 12 and 17 to 21.
+#![tactic(auto)]
+
 pub mod reading;
 
 ghost use Rattle.std.specs.Prelude.{◌≡◌};

@@ -1,7 +1,7 @@
 -- Schedules on duty minutes. The reports of w calendar minutes from a are those at the duty minutes from the count before a to that before
 -- a + w, which are w in a row or fewer; so they hold no more than w minutes of the schedule. And two reports are on the calendar as
 -- far apart as their duty minutes, or further.
-use Prim.Native.Nat.{ℕ, ◌+◌, ◌-◌, ◌≤◌, ◌<◌}
+use Prim.Native.Nat.{ℕ, ◌+◌, ◌≤◌, ◌<◌}
 use native.Mathlib.Omega.{arith}
 use native.Mathlib.Nat.{le_trans}
 use mathlib.Core.Path.{refl}

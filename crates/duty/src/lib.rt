@@ -1,6 +1,8 @@
 // Duty hours (document 02, Req 11): whether a week table keeps the rules, the calendar minute of a duty minute, and the duty minute of an
 // open calendar minute. Each takes the whole weeks by a division and then the windows of one week, whatever the minute. Schedules that are
 // run on duty minutes are judged here too, by theorems; what stretches of reports at given minutes hold is left to `schedule`.
+#![tactic(auto)]
+
 ghost use Rattle.std.specs.Prelude.{◌≡◌, true, ◌*◌, ◌≤◌, ◌<◌, ◌^◌, length};
 ghost use Rattle.duty.specs.Weeks.{window_right, day_right, in_window, day_open, is_open, open_before, days_right, table_number};
 ghost use Rattle.duty.specs.Minutes.{calendar_of, duty_of, day_of, table_of};

@@ -2,6 +2,8 @@
 // even plan"; document 02, Req 06). Refusal 10, after a specification's own. The sizes themselves are crate `plan`'s; here are the
 // arithmetic that says whether a gap has such a list, and the search for the longest one, which tries few of up to 20,160 gaps: those of
 // the second range first, as they are longer.
+#![tactic(auto)]
+
 ghost use Rattle.std.specs.Prelude.{◌≡◌, ◌≤◌, true};
 ghost use Rattle.spec.specs.Limits.{range_limits, spec_number};
 ghost use Rattle.even.specs.Even.{count_at, total_of, demand_fits, supply_fits, fits, even_gap, even_plan_at, even_plan, even_of};

@@ -1,5 +1,7 @@
 // The two families of schedules for k reports, with their supply figures (document 01, "Schedules from document 000"). Refusals 3 to
 // 6, 24 and 25.
+#![tactic(auto)]
+
 ghost use Rattle.std.specs.Prelude.{◌≡◌, true, ◌*◌, ◌<◌};
 ghost use Rattle.spec.specs.declared.BothRates.TheVariants.{Both};
 ghost use Rattle.spec.specs.Rates.{started};

@@ -1,5 +1,7 @@
 // The test (document 01, "The test"): the family's schedule with the best supply figure over all k, and whether it passes. Refusals 3, 4,
 // 24, 25, 5, 7 and 9.
+#![tactic(auto)]
+
 ghost use Rattle.std.specs.Prelude.{◌≡◌, true, ◌≤◌};
 ghost use Rattle.spec.specs.declared.BothRates.TheVariants.{Both};
 ghost use Rattle.spec.specs.Rates.{started};

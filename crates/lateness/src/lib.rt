@@ -2,6 +2,8 @@
 // that takes a lateness begins (3, 4, 24, then 26), and the specification that planned minutes must meet, so that the given one is met
 // however the reports are delayed. Ranges of gaps lose their first and their last J minutes, those that touch are joined before; R is J
 // longer, and P shorter by as much. That this is so of every schedule is proved here; which cycles meet it is left to `cycle`.
+#![tactic(auto)]
+
 ghost use Rattle.std.specs.Prelude.{◌≡◌, true, ◌-◌, ◌≤◌};
 ghost use Rattle.spec.specs.Limits.{rate_limits, range_limits, IsAccepted};
 ghost use Rattle.lateness.specs.Lateness.{late_supply, late_demand};

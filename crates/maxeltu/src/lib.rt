@@ -1,6 +1,8 @@
 // What others call: the loader's call and the C interface of include/maxeltu.h, thin over the crates below. Every call answers 0 or the
 // number of the refusal; a lent place is written only where the answer is 0, the condition of an inconsistent specification only where it
 // is 7, and the budget left after every offer to a meter that has one to tell.
+#![tactic(auto)]
+
 ghost use Rattle.std.specs.Prelude.{◌≡◌, ◌/◌, min, length};
 ghost use Rattle.spec.specs.File.{if_read, read_spec};
 ghost use Rattle.cycle.specs.Check.{check_file_number};
@@ -128,12 +130,7 @@ pub fn maxeltu_test(
 }
 
 // The even plan of a specification's file.
-pub fn maxeltu_even_plan(
-    spec_bytes: &[u8],
-    k: &mut u32,
-    period: &mut u32,
-    total: &mut u32,
-) -> u32
+pub fn maxeltu_even_plan(spec_bytes: &[u8], k: &mut u32, period: &mut u32, total: &mut u32) -> u32
     ensures { (result ≡ (even_call spec_bytes.now).number)
         × (k.new ≡ held_after 0 1 (even_call spec_bytes.now) k.old)
         × (period.new ≡ held_after 0 2 (even_call spec_bytes.now) period.old)

@@ -1,7 +1,7 @@
 -- The meter's answers are the plain machine's. Both judge by the same four tests: a meter that stands for the list knows what the R
 -- minutes hold, and with no supply rate its window of 0 minutes holds nothing. So the numbers are the same, and the meter after an
 -- offer stands for the list after it.
-use Prim.Native.Nat.{ℕ, ◌+◌, ◌-◌, ◌≤◌, max}
+use Prim.Native.Nat.{ℕ, ◌+◌, ◌-◌, ◌≤◌}
 use native.Mathlib.Omega.{arith}
 use native.Mathlib.Nat.{add_comm}
 use mathlib.Core.Path.{◌≡◌, refl, sym, ◌∙◌, ap, subst}

@@ -2,6 +2,8 @@
 // hold more than B records. What an offer is to get is said by a plain machine that keeps every accepted report
 // (specs/Plain.antt). The meter holds 1,024 of them at most, in a ring (specs/Ring.antt); that it gives what the machine gives, and that
 // no R minutes hold more than B, stands on the demands' page. Whether a gap is too long is not asked here.
+#![tactic(auto)]
+
 ghost use Rattle.std.specs.Prelude.{◌≡◌, not, ◌+◌, ◌-◌, ◌<◌, ◌≤◌, leb, ltb};
 ghost use Rattle.spec.specs.Limits.{between};
 ghost use Rattle.spec.specs.File.{accept, read_spec};

@@ -1,4 +1,6 @@
 // Arithmetic that several crates need: the smaller and the larger of two numbers, a 16-bit number as a wide one, and division rounded up.
+#![tactic(auto)]
+
 ghost use Rattle.std.specs.Prelude.{◌≡◌, ◌≤◌, min, max};
 ghost use Rattle.numbers.specs.Numbers.{ceil};
 

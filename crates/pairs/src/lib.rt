@@ -1,6 +1,7 @@
 // A cycle in memory: a lent list of pairs, gap then size. `unpack` copies such a list into lent 16-bit numbers, and `pack` copies them
 // back into a lent list: these two hold the only loops over lent pairs, so that every other function that works on a cycle takes a
 // flat slice. What a cycle's gaps and sizes may be, and how a cycle is written to a file, is left to others.
+#![tactic(auto)]
 
 ghost use Rattle.std.specs.Prelude.{◌≡◌, ◌*◌, ◌/◌, cond, leb, length};
 ghost use Rattle.pairs.specs.Pairs.{count_in, flatten, pairs_of, laid_over, that_fit};

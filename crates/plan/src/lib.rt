@@ -1,6 +1,8 @@
 // Plans: k reports in a period of so many minutes with so many records, of one of two kinds; whether a plan is proper, and the minute
 // and size of each report of its endless run, in constant time (document 01, "Schedules from document 000"); and back from minutes to
 // reports (`moments`). Refusals 11 and 23. How a plan is found is left to the crates above.
+#![tactic(auto)]
+
 pub mod moments;
 
 ghost use Rattle.std.specs.Prelude.{◌≡◌, true, ◌+◌, ◌-◌, ◌*◌, ◌≤◌, ◌<◌, ◌^◌};

@@ -1,6 +1,6 @@
 -- Reports at given minutes. For a schedule's own minutes their stretches and rules are the schedule's. And one stretch against another, report
 -- by report: where each report that is at the minutes of the one is at those of the other, the first holds no more.
-use Prim.Native.Nat.{ℕ, zero, suc, ◌+◌, ◌-◌, ◌≤◌, ◌<◌}
+use Prim.Native.Nat.{ℕ, zero, suc, ◌+◌, ◌≤◌, ◌<◌}
 use native.Mathlib.Omega.{arith}
 use native.Mathlib.Nat.{le_trans, add-zero}
 use native.Mathlib.Numerals.{add-one}
@@ -12,7 +12,7 @@ use Rattle.numbers.proofs.Cases.{lt_cases}
 use Rattle.spec.specs.declared.Rate.{Rate}
 use Rattle.spec.specs.declared.Rate.TheVariants.{Absent, Present}
 use Rattle.spec.specs.declared.Spec.{Spec}
-use Rattle.schedule.specs.Schedules.{Schedule, sum, minute, stretch, share}
+use Rattle.schedule.specs.Schedules.{Schedule, sum, stretch, share}
 use Rattle.schedule.specs.Timed.{Timed, timed_share, timed_stretch, timed_gap, planned}
 use Rattle.schedule.specs.Rules.{Obeys, SupplyKept, DemandMet, TimedObeys}
 use Rattle.schedule.proofs.Sums.{sum_add, block, block_none, block_more}

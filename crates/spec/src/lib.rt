@@ -1,6 +1,8 @@
 // A specification: its numbers with two rates, a range of durations and a second range of gaps that may be absent, the limits and the
 // order of its values, and its file (document 01, "The specification"; document 02, Req 06). Refusals 1 to 5, 24 and 25. What the numbers
 // mean for a schedule is left to the crates above; `refusal` names the numbers of every refusal.
+#![tactic(auto)]
+
 pub mod refusal;
 
 ghost use Rattle.std.specs.Prelude.{◌≡◌, ◌+◌, ◌*◌, ◌<◌, ◌≤◌, length};

@@ -1,5 +1,7 @@
 // Writing a cycle file: its length is known before the first byte is stored, so that a refusal leaves the lent bytes alone. The call over
 // a lent list of pairs is exported by `maxeltu`. Refusals 12 and 20.
+#![tactic(auto)]
+
 ghost use Rattle.std.specs.Prelude.{◌≡◌, ◌+◌, ◌/◌, ◌≤◌, ◌<◌, length, get_or};
 ghost use Rattle.std.proofs.lemmas.List.Edits.{sets};
 ghost use Rattle.pairs.specs.Pairs.{no_pair, pairs_of};

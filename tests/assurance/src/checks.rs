@@ -116,7 +116,7 @@ impl<'a> Project<'a> {
             problems.extend(unread.map(|line| format!("{file}: not followed: {line}")));
             let contracts = code::contracts(text);
             functions += contracts.len();
-            let silent = contracts.iter().filter(|(_, clauses)| !clauses.contains("ensures ") || clauses.contains("Rattle·"));
+            let silent = contracts.iter().filter(|(_, clauses)| !clauses.contains("ensures ") || clauses.contains("Rattle."));
             problems.extend(silent.map(|(name, _)| format!("{file}: {name} ensures nothing, or what no `use` line brings in")));
             // Crates that are not in the folders are the kit's.
             let ours = source.imports.values().filter(|(from, _)| self.crates.contains(from.split('/').next().unwrap_or("")));

@@ -65,12 +65,12 @@ mod tests {
     #[test]
     fn a_file() {
         let text =
-            "pub mod open;\nmod shut;\n// fn no()\npub fn a(x: u8) -> u8\n    requires { ⌜ p x ⌝ }\n    ensures { λ r. ⌜ q\n\
-                            × s ⌝ }\n{\n}\nimpl T {\n    pub fn b() {\n    }\n}\npub(crate) fn c()\n    ensures { t }\n{\n}\n\
+            "pub mod open;\nmod shut;\n// fn no()\npub fn a(x: u8) -> u8\n    requires { p x }\n    ensures { q\n\
+                            × s }\n{\n}\nimpl T {\n    pub fn b() {\n    }\n}\npub(crate) fn c()\n    ensures { t }\n{\n}\n\
                     pub extern \"C\" fn d(\n    x: u8,\n) -> u8\n    ensures { u }\n{\n}\n";
         let found = contracts(text);
         assert_eq!(found.iter().map(|(name, _)| name.as_str()).collect::<Vec<_>>(), ["a", "b", "d"]);
-        assert_eq!(found[0].1, "requires { ⌜ p x ⌝ }\nensures { λ r. ⌜ q\n× s ⌝ }");
+        assert_eq!(found[0].1, "requires { p x }\nensures { q\n× s }");
         assert_eq!((found[1].1.as_str(), found[2].1.as_str()), ("", "ensures { u }"));
         let file = |name: &str, text: &str| (name.to_string(), text.to_string());
         let files = Files::from([

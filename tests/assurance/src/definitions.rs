@@ -20,13 +20,18 @@ pub struct Source {
 }
 
 /// The libraries of the kit. What their definitions rest on is the kit's, and trusted with it.
-const KIT: [&str; 3] = ["Prim.", "mathlib.", "lib."];
+const KIT: [&str; 4] = ["Rattle.std.", "Prim.", "mathlib.", "lib."];
 
-/// The names in a text, an operator's as its sign. A projection such as `.size` is none: the type of what it is applied to names
-/// its record.
+/// The names in a text, an operator's as its sign. A projection such as `.size` in `s.size` is none: the type of what it is applied to
+/// names its record.
 pub fn words(text: &str) -> impl Iterator<Item = &str> {
-    let words = text.split(|c: char| c.is_whitespace() || "(){}[];,".contains(c)).filter(|word| !word.starts_with('.'));
-    words.map(|word| word.trim_end_matches('.').trim_matches('_')).filter(|word| !word.is_empty())
+    let words = text.split(|c: char| c.is_whitespace() || "(){}[];,".contains(c));
+    words.map(|word| plain(word.split('.').next().unwrap_or(""))).filter(|word| !word.is_empty())
+}
+
+/// A name without the holes of an operator.
+fn plain(name: &str) -> &str {
+    name.trim().trim_matches('◌')
 }
 
 /// The names that a line declares: those before a colon, or the one behind `record` or `data`.
@@ -38,7 +43,7 @@ fn declared(code: &str) -> Vec<&str> {
     };
     // In a clause the colon of a binder comes behind a bracket or an equals sign.
     let clause = names.iter().any(|name| name.contains(['(', '{', '=']));
-    names.iter().filter(|_| !clause).map(|name| name.trim_matches('_')).collect()
+    names.iter().filter(|_| !clause).map(|name| plain(name)).collect()
 }
 
 /// What a `use` line brings in, by the names here. None of the kit's, and no struct or enum of the code.
@@ -47,14 +52,13 @@ fn imported(line: &str) -> Option<BTreeMap<String, Place>> {
     if KIT.iter().any(|kit| module.starts_with(kit)) {
         return Some(BTreeMap::new());
     }
-    let (home, module) = module.strip_prefix("Rattle·")?.split_once(".specs.")?;
+    let (home, module) = module.strip_prefix("Rattle.")?.split_once(".specs.")?;
     if module.starts_with("declared.") {
         return Some(BTreeMap::new());
     }
-    let file = format!("{}/specs/{}.antt", home.trim_end_matches("·specs"), module.replace('.', "/"));
+    let file = format!("{home}/specs/{}.antt", module.replace('.', "/"));
     let names = names.split(',').map(|name| name.split_once(" as ").unwrap_or((name, name)));
-    let plain = |name: &str| name.trim().trim_matches('_').to_string();
-    Some(names.map(|(there, here)| (plain(here), (file.clone(), plain(there)))).collect())
+    Some(names.map(|(there, here)| (plain(here).to_string(), (file.clone(), plain(there).to_string()))).collect())
 }
 
 impl Source {
@@ -72,7 +76,7 @@ impl Source {
                     None => source.unread.push(code.to_string()),
                 },
                 // A definition's whole path in the middle of a text.
-                _ if code.contains("Rattle·") => source.unread.push(code.to_string()),
+                _ if code.contains("Rattle.") => source.unread.push(code.to_string()),
                 (0, _) if code.starts_with("module ") => {
                     modules.push(code);
                     current = String::new();
@@ -140,8 +144,8 @@ mod tests {
     #[test]
     fn a_file() {
         let source = Source::of(
-            "use Rattle·a·specs.specs.B.{c as d, _⊕_}\nuse lib.Dec.{leb}\nuse Rattle·a.specs.declared.T.{T}\n-- no : thing\n\
-             pub data Way : Type 0 where\n  left : Way\n  right : T → Way\n\nabbrev pub f : Way → T\nf (left) = g (λ (q : T). d .size)\n\
+            "use Rattle.a.specs.B.{c as d, ◌⊕◌}\nuse Rattle.std.specs.Prelude.{leb}\nuse Rattle.a.specs.declared.T.{T}\n-- no : thing\n\
+             pub data Way : Type 0 where\n  left : Way\n  right : T → Way\n\nabbrev pub f : Way → T\nf (left) = g (λ (q : T). d.size)\n\
              module _ (x : Way) where\n  h : T\n  h = f x\n\nk : T\nk = h left\n",
         );
         assert_eq!(source.names.keys().collect::<Vec<_>>(), ["Way", "f", "h", "k", "left", "right"]);
@@ -151,6 +155,6 @@ mod tests {
         assert_eq!(source.words["f"].join(" "), "abbrev pub f : Way → T f left = g λ q : T d");
         assert!(source.words["h"].contains(&"Way".to_string()) && !source.words["k"].contains(&"Way".to_string()));
         assert!(source.unread.is_empty());
-        assert_eq!(Source::of("use Rattle·a.specs.B\nuse Other.{x}\na b : T\nc : T\nc = Rattle·a.specs.B.d\n").unread.len(), 4);
+        assert_eq!(Source::of("use Rattle.a.specs.B\nuse Other.{x}\na b : T\nc : T\nc = Rattle.a.specs.B.d\n").unread.len(), 4);
     }
 }

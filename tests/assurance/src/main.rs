@@ -21,6 +21,10 @@ pub const LAYERS: &str = "../crates.txt";
 fn add(crates: &Path, name: &str, files: &mut Files) {
     let path = crates.join(name);
     if path.is_dir() {
+        // What rt made there is no source.
+        if name.ends_with("/out") {
+            return;
+        }
         for entry in fs::read_dir(path).expect("a folder that can be read") {
             let below = format!("{name}/{}", entry.expect("an entry that can be read").file_name().to_string_lossy());
             add(crates, below.trim_start_matches('/'), files);

@@ -7,16 +7,16 @@ const SMALL: &[(&str, &str)] = &[
     (LAYERS, "k:\nmain: k\nmaxeltu: k\n"),
     (
         "k/src/lib.rt",
-        "mod inner;\nghost use Rattle·k·specs.specs.Top.{top};\npub fn f(x: u8) -> u8\n    ensures { top x }\n{\n}\n",
+        "mod inner;\nghost use Rattle.k.specs.Top.{top};\npub fn f(x: u8) -> u8\n    ensures { top x }\n{\n}\n",
     ),
-    ("k/src/inner.rt", "ghost use Rattle·k·specs.specs.Inner.{held};\npub fn g(x: u8) -> u8\n    ensures { held x }\n{\n}\n"),
-    ("k/specs/Top.antt", "-- comment\nuse Rattle·k·specs.specs.Base.{some as one}\n\npub top : ℕ → ℕ\ntop x = one x\n"),
+    ("k/src/inner.rt", "ghost use Rattle.k.specs.Inner.{held};\npub fn g(x: u8) -> u8\n    ensures { held x }\n{\n}\n"),
+    ("k/specs/Top.antt", "-- comment\nuse Rattle.k.specs.Base.{some as one}\n\npub top : ℕ → ℕ\ntop x = one x\n"),
     ("k/specs/Base.antt", "pub data Base : Type 0 where\n  some : Base\n"),
     ("k/specs/Inner.antt", "pub held : ℕ → ℕ\nheld x = x\n"),
     ("k/must-fail/first.edit", ""),
     ("k/must-fail/second.edit", ""),
     ("main/src/main.rt", "fn main() {\n}\n"),
-    ("demands/specs/Demands.antt", "use Rattle·k.specs.Top.{top}\npub record Demands : Type 0 where\n  pub kept : top 0 ≡ 0\n"),
+    ("demands/specs/Demands.antt", "use Rattle.k.specs.Top.{top}\npub record Demands : Type 0 where\n  pub kept : top 0 ≡ 0\n"),
     (
         PAGE,
         "The program `main`.\n\n| Definition | Theorem | Function | Must-fail edits |\n|---|---|---|---|\n\

@@ -2,7 +2,6 @@
 use mathlib.Core.Path.{refl}
 use Rattle.answers.specs.Answers.{held_after}
 use Rattle.answers.proofs.Places.{after_refusal}
-use borrow.Author.Rules.{rules}
 use Rattle.answers.proofs.bill_answer.Goals as goal
 
 pub returns-in-Due : goal.returns-in-Due

@@ -1,6 +1,5 @@
 -- The three parts, each by its function.
 use Rattle.consistency.specs.Consistency.{bounds_fit_rates}
-use borrow.Author.Rules.{rules}
 use Rattle.consistency.proofs.bounds_fit_rates.Goals as goal
 
 pub returns : goal.returns

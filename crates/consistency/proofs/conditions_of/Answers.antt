@@ -1,7 +1,5 @@
 -- Each return rewrites the definition by the conditions that were found to hold, and by the one that failed.
-use Rattle.numbers.proofs.Negated.{held, failed}
 use Rattle.consistency.specs.Consistency.{conditions_of}
-use borrow.Author.Rules.{rules}
 use mathlib.Core.Path.{sym, ◌∙◌}
 use Rattle.consistency.proofs.conditions_of.Goals as goal
 

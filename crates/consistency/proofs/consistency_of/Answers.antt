@@ -4,7 +4,6 @@ use Rattle.consistency.specs.declared.Consistency.TheVariants.{Refused}
 use Rattle.consistency.specs.Consistency.{consistency_of}
 use Rattle.spec.proofs.GoingOn.{goes_on, stops, one_range_iff}
 use mathlib.Core.Path.{sym, ◌∙◌, ap}
-use borrow.Author.Rules.{rules}
 use Rattle.consistency.proofs.consistency_of.Goals as goal
 
 pub returns-then-n-ne0 : goal.returns-then-n-ne0

@@ -1,6 +1,5 @@
 -- By whether the demand rate and the duration are there.
 use Rattle.consistency.specs.Consistency.{where_rate, where_range, demand_fits_duration}
-use borrow.Author.Rules.{rules}
 use Rattle.consistency.proofs.demand_fits_duration.Goals as goal
 
 pub returns-in-Absent : goal.returns-in-Absent

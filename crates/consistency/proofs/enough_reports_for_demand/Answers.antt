@@ -1,7 +1,6 @@
 -- By whether the demand rate is there; dmax and smin are no 0 in an accepted specification.
 use Rattle.spec.proofs.Facts.{facts}
 use Rattle.consistency.specs.Consistency.{where_rate, enough_reports_for_demand}
-use borrow.Author.Rules.{rules}
 use Rattle.consistency.proofs.enough_reports_for_demand.Goals as goal
 
 pub nonzero_div-result : goal.nonzero_div-result

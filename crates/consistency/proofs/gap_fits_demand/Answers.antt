@@ -1,6 +1,5 @@
 -- By whether the demand rate is there.
 use Rattle.consistency.specs.Consistency.{where_rate, gap_fits_demand}
-use borrow.Author.Rules.{rules}
 use Rattle.consistency.proofs.gap_fits_demand.Goals as goal
 
 pub returns-in-Absent : goal.returns-in-Absent

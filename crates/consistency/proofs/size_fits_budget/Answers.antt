@@ -1,6 +1,5 @@
 -- By whether the supply rate is there.
 use Rattle.consistency.specs.Consistency.{where_rate, size_fits_budget}
-use borrow.Author.Rules.{rules}
 use Rattle.consistency.proofs.size_fits_budget.Goals as goal
 
 pub returns-in-Absent : goal.returns-in-Absent

@@ -1,7 +1,5 @@
 -- By whether both rates are there; a product of two 16-bit numbers fits.
-use Rattle.spec.proofs.Products.{fits_mul}
 use Rattle.consistency.specs.Consistency.{where_rate, supply_covers_demand}
-use borrow.Author.Rules.{rules}
 use Rattle.consistency.proofs.supply_covers_demand.Goals as goal
 
 pub returns-in-Absent : goal.returns-in-Absent

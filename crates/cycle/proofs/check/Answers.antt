@@ -1,6 +1,5 @@
 -- `check` meets its contract: an accepted specification can be judged by, and the number is then the cycle's.
 use mathlib.Core.Path.{sym, ◌∙◌}
-use borrow.Author.Rules.{rules}
 use Rattle.cycle.proofs.Numbers.{gets_refused, gets_cycle}
 use Rattle.cycle.proofs.Planned.{accepted_judges}
 use Rattle.cycle.proofs.check.Goals as goal

@@ -1,7 +1,6 @@
 -- `check_late` meets its contract: the number of a cycle with lateness is the number against what its planned minutes must meet
 -- (proofs/Planned.antt).
 use mathlib.Core.Path.{sym, ◌∙◌}
-use borrow.Author.Rules.{rules}
 use Rattle.cycle.proofs.Planned.{against_judges, against_number, refused_number}
 use Rattle.cycle.proofs.check_late.Goals as goal
 

@@ -1,6 +1,5 @@
 -- `check_late_file` meets its contract, by what reading the specification gave.
 use mathlib.Core.Path.{◌∙◌}
-use borrow.Author.Rules.{rules}
 use Rattle.cycle.specs.LateCheck.{late_file_number}
 use Rattle.cycle.proofs.Numbers.{read_refused, read_accepted}
 use Rattle.cycle.proofs.check_late_file.Goals as goal

@@ -4,11 +4,7 @@ use Prim.Native.Nat.{◌/◌}
 use mathlib.Core.Path.{◌≡◌, sym, ◌∙◌}
 use mathlib.Core.Bool.{true}
 use lib.ListN.{length}
-use borrow.Author.Rules.{rules}
-use borrow.Author.Tests.{not-true, not-false}
-use Rattle.numbers.proofs.Negated.{held, failed}
 use Rattle.spec.specs.Limits.{between}
-use Rattle.spec.proofs.Facts.{between_iff}
 use Rattle.pairs.specs.Pairs.{count_in, pairs_of}
 use Rattle.cycle.specs.Check.{gaps_allowed, sizes_allowed, supply_kept, cycle_number}
 use Rattle.cycle.specs.Windows.{Walkable}

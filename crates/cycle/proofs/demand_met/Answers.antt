@@ -1,7 +1,6 @@
 -- `demand_met` meets its contract: the thinnest stretches start one minute after the reports of one round (`demand_starts`).
 use native.Mathlib.Omega.{arith}
 use mathlib.Core.Path.{◌∙◌}
-use borrow.Author.Rules.{rules}
 use Rattle.pairs.specs.Pairs.{pairs_of}
 use Rattle.pairs.proofs.FlatLists.{length_pairs_of}
 use Rattle.cycle.specs.Check.{demand_met}

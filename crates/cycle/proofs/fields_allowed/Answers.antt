@@ -1,12 +1,9 @@
 -- `fields_allowed` meets its contract. The invariant: the field of every pair passed is allowed.
-use Prim.Native.Nat.{ℕ, ◌-◌, ◌≤◌, ◌<◌}
 use native.Mathlib.Omega.{arith}
 use mathlib.Core.Path.{◌≡◌, sym, ◌∙◌}
-use mathlib.Core.Bool.{true}
 use borrow.Author.Count.{below_more}
 use borrow.Author.Rules.{rules}
 use Rattle.numbers.proofs.All.{all_pass, one_fails}
-use Rattle.numbers.proofs.Negated.{held, failed}
 use Rattle.pairs.specs.Pairs.{pairs_of}
 use Rattle.pairs.proofs.FlatLists.{length_pairs_of}
 use Rattle.cycle.specs.Windows.{field, field_allowed, fields_allowed}

@@ -1,16 +1,9 @@
 -- `fields_allowed` meets its contract. The invariant: the field of every pair passed is allowed.
 use Prim.Native.Nat.{ℕ, ◌-◌, ◌≤◌, ◌<◌}
-use native.Mathlib.Omega.{arith}
 use mathlib.Core.Path.{◌≡◌}
 use mathlib.Core.Bool.{true}
-use borrow.Author.Count.{below_more}
-use borrow.Author.Rules.{rules}
-use Rattle.numbers.proofs.All.{all_pass, one_fails}
-use Rattle.numbers.proofs.Negated.{held, failed}
 use Rattle.pairs.specs.Pairs.{pairs_of}
-use Rattle.pairs.proofs.FlatLists.{length_pairs_of}
-use Rattle.cycle.specs.Windows.{field, field_allowed, fields_allowed}
-use Rattle.cycle.proofs.Runs.{flat_field}
+use Rattle.cycle.specs.Windows.{field, field_allowed}
 use Rattle.cycle.proofs.fields_allowed.Given as goal
 
 abbrev pub invariant-loop-j : goal.invariant-loop-j

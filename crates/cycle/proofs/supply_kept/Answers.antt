@@ -1,11 +1,10 @@
 -- `supply_kept` meets its contract: the fullest stretches start at the reports of one round (`supply_starts`).
 use native.Mathlib.Omega.{arith}
 use mathlib.Core.Path.{◌∙◌}
-use borrow.Author.Rules.{rules}
 use Rattle.pairs.specs.Pairs.{pairs_of}
 use Rattle.pairs.proofs.FlatLists.{length_pairs_of}
 use Rattle.cycle.specs.Check.{supply_kept}
-use Rattle.cycle.proofs.Starts.{minutes_some, supply_starts}
+use Rattle.cycle.proofs.Starts.{supply_starts}
 use Rattle.cycle.proofs.supply_kept.Goals as goal
 
 pub returns-in-Absent : goal.returns-in-Absent

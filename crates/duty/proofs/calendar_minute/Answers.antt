@@ -1,8 +1,7 @@
 -- `calendar_minute` meets its contract: whole weeks by a division, and the open minute of one week with as many before it as are left.
 use native.Mathlib.Omega.{arith}
-use native.Mathlib.Nat.{mod-lt, div-le_self}
+use native.Mathlib.Nat.{mod-lt}
 use mathlib.Core.Path.{◌≡◌, sym, ◌∙◌, ap}
-use borrow.Author.Rules.{rules}
 use Rattle.duty.specs.declared.CalendarMinute.TheVariants.{At}
 use Rattle.duty.specs.Weeks.{open_before, IsTable}
 use Rattle.duty.proofs.Tables.{table_facts, week_some, week_none, refuses_calendar, gives_calendar, calendar_weeks}

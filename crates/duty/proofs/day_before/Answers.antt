@@ -1,5 +1,4 @@
 -- `day_before` meets its contract: two windows, each with at most x of the minutes before x.
-use borrow.Author.Rules.{rules}
 use Rattle.duty.specs.Windows.{day_before}
 use Rattle.duty.proofs.Days.{ordered}
 use Rattle.duty.proofs.day_before.Goals as goal

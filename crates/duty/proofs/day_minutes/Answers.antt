@@ -1,6 +1,5 @@
 -- `day_minutes` meets its contract: a whole day has the minutes of its windows.
 use native.Mathlib.Omega.{arith}
-use borrow.Author.Rules.{rules}
 use Rattle.duty.proofs.Days.{ordered, day_whole, day_most}
 use Rattle.duty.proofs.day_minutes.Goals as goal
 

@@ -1,5 +1,4 @@
 -- `day_open` meets its contract: the test is that of the definition.
-use borrow.Author.Rules.{rules}
 use Rattle.duty.specs.Weeks.{day_open}
 use Rattle.duty.proofs.day_open.Goals as goal
 

@@ -1,5 +1,4 @@
 -- `day_right` meets its contract: the tests are those of the definition.
-use borrow.Author.Rules.{rules}
 use Rattle.duty.specs.Weeks.{day_right}
 use Rattle.duty.proofs.day_right.Goals as goal
 

@@ -1,13 +1,8 @@
 -- `days_before` meets its contract: the open minutes of the days passed are counted, and each day that follows adds those of its
 -- windows.
-use Prim.Native.Nat.{◌+◌, ◌-◌, ◌*◌, ◌≤◌, ◌<◌}
-use native.Mathlib.Omega.{arith}
-use mathlib.Core.Path.{◌≡◌, sym}
-use borrow.Author.Rules.{rules}
+use Prim.Native.Nat.{◌-◌, ◌*◌, ◌≤◌}
+use mathlib.Core.Path.{◌≡◌}
 use Rattle.duty.specs.Weeks.{open_before}
-use Rattle.duty.proofs.OpenMinutes.{before_none, before_most}
-use Rattle.duty.proofs.Days.{before_next}
-use Rattle.duty.proofs.Tables.{day_right_lem}
 use Rattle.duty.proofs.days_before.Given as goal
 
 abbrev pub invariant-loop-k : goal.invariant-loop-k

@@ -2,7 +2,6 @@
 use native.Mathlib.Omega.{arith}
 use mathlib.Core.Path.{◌≡◌, sym, ◌∙◌}
 use borrow.Author.Rules.{rules}
-use Rattle.numbers.proofs.Negated.{held, failed}
 use Rattle.duty.specs.Weeks.{open_before, IsTable}
 use Rattle.duty.proofs.OpenMinutes.{before_most}
 use Rattle.duty.proofs.Tables.{table_facts, week_some, week_none, refuses_duty, refuses_closed, gives_duty}

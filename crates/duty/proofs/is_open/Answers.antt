@@ -1,5 +1,4 @@
 -- `is_open` meets its contract: the day and its minute are those of the definition.
-use borrow.Author.Rules.{rules}
 use Rattle.duty.specs.Weeks.{is_open}
 use Rattle.duty.proofs.is_open.Goals as goal
 

@@ -1,7 +1,6 @@
 -- `open_before` meets its contract: whole weeks, whole days and a part of a day. Together they are at most m, so that every sum fits.
 use native.Mathlib.Omega.{arith}
 use mathlib.Core.Path.{sym}
-use borrow.Author.Rules.{rules}
 use Rattle.duty.proofs.OpenMinutes.{before_most}
 use Rattle.duty.proofs.Tables.{day_right_lem, before_parts}
 use Rattle.duty.proofs.open_before.Goals as goal

@@ -1,6 +1,5 @@
 -- `table_number` meets its contract: the count of a week is 0 exactly where the table is refused.
 use mathlib.Core.Path.{sym}
-use borrow.Author.Rules.{rules}
 use Rattle.duty.proofs.Tables.{number_27, week_some, week_none}
 use Rattle.duty.proofs.table_number.Goals as goal
 

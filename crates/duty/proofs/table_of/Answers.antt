@@ -1,5 +1,4 @@
 -- `table_of` meets its contract: seven days in order, or seven that have no window.
-use borrow.Author.Rules.{rules}
 use borrow.Author.Tests.{eq-eqb, ne_eqb}
 use Rattle.duty.specs.Minutes.{table_of}
 use Rattle.duty.proofs.table_of.Goals as goal

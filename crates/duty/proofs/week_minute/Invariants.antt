@@ -1,12 +1,7 @@
 -- `week_minute` meets its contract: n is what is left, and the open minutes of the days passed.
-use Prim.Native.Nat.{◌+◌, ◌-◌, ◌*◌, ◌≤◌, ◌<◌}
-use native.Mathlib.Omega.{arith}
+use Prim.Native.Nat.{◌+◌, ◌-◌, ◌*◌, ◌≤◌}
 use mathlib.Core.Path.{◌≡◌}
-use borrow.Author.Rules.{rules}
 use Rattle.duty.specs.Weeks.{open_before}
-use Rattle.duty.proofs.OpenMinutes.{before_none}
-use Rattle.duty.proofs.Days.{before_next, week_minute}
-use Rattle.duty.proofs.Tables.{day_right_lem}
 use Rattle.duty.proofs.week_minute.Given as goal
 
 abbrev pub invariant-loop-k : goal.invariant-loop-k

@@ -1,16 +1,12 @@
 -- `week_minutes` meets its contract: every day passed keeps the rules, and the open minutes of those days are counted. The first day
 -- that breaks one ends the count.
-use Prim.Native.Nat.{ℕ, ◌+◌, ◌-◌, ◌*◌, ◌≤◌, ◌<◌}
+use Prim.Native.Nat.{◌+◌, ◌*◌}
 use native.Mathlib.Omega.{arith}
 use mathlib.Core.Path.{◌≡◌, sym, ◌∙◌}
-use mathlib.Core.Bool.{true}
-use mathlib.Core.List.{[]}
-use lib.ListN.{get_or}
 use borrow.Author.Count.{below_more}
 use borrow.Author.Rules.{rules}
 use Rattle.numbers.proofs.All.{all_pass, one_fails}
-use Rattle.numbers.proofs.Negated.{held, failed}
-use Rattle.duty.specs.Weeks.{day_right, open_before, days_right}
+use Rattle.duty.specs.Weeks.{days_right}
 use Rattle.duty.proofs.OpenMinutes.{before_none, before_most}
 use Rattle.duty.proofs.Days.{before_next}
 use Rattle.duty.proofs.Tables.{week_right, week_wrong}

@@ -1,6 +1,5 @@
 -- m and dmax have 16 bits each, so their product fits 64.
 use Rattle.even.specs.Even.{demand_fits}
-use Rattle.spec.proofs.Products.{fits_mul}
 use borrow.Author.Rules.{rules}
 use Rattle.even.proofs.demand_fits.Goals as goal
 

@@ -1,6 +1,5 @@
 -- The cases of the definition, by what the calls answered.
 use mathlib.Core.Path.{◌∙◌, ap}
-use borrow.Author.Rules.{rules}
 use Rattle.even.specs.declared.EvenPlan.TheVariants.{Found}
 use Rattle.even.proofs.Cases.{plan_not_begun, plan_none, plan_some}
 use Rattle.even.proofs.even_plan.Goals as goal

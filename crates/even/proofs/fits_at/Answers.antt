@@ -1,6 +1,5 @@
 -- Each call answers a part of the definition.
 use Rattle.even.specs.Even.{fits}
-use borrow.Author.Rules.{rules}
 use Rattle.even.proofs.fits_at.Goals as goal
 
 pub returns : goal.returns

@@ -2,7 +2,6 @@
 use native.Mathlib.Omega.{arith}
 use Rattle.spec.proofs.Facts.{range_limits_iff}
 use Rattle.even.specs.Search.{even_gap_of}
-use borrow.Author.Rules.{rules}
 use Rattle.even.proofs.gap_of.Goals as goal
 
 pub gap_within-requires : goal.gap_within-requires

@@ -1,12 +1,9 @@
 -- The invariant: the largest gap of the range that fits is the largest from s down. A gap that fits ends the search; after one that
 -- fails, the gaps that `next_gap` jumps over fail too (proofs/Jumps.antt). The gap falls with each turn.
 use Prim.Native.Nat.{◌≤◌}
-use mathlib.Core.Path.{◌≡◌, sym, ◌∙◌}
-use native.Mathlib.Omega.{arith}
-use borrow.Author.Rules.{rules}
+use mathlib.Core.Path.{◌≡◌}
 use Rattle.even.specs.Search.{even_gap_in}
-use Rattle.even.proofs.Jumps.{next_gap_less}
-use Rattle.even.proofs.Search.{left_from, search_starts, search_hits, search_jumps, search_ends}
+use Rattle.even.proofs.Search.{left_from}
 use Rattle.even.proofs.gap_within.Given as goal
 
 abbrev pub invariant-loop-s : goal.invariant-loop-s

@@ -1,7 +1,4 @@
 -- The sum P / s + 1 and the quotient are at most P + 1 and P.
-use Prim.Native.Nat.{◌+◌, ◌/◌}
-use native.Mathlib.Omega.{arith}
-use native.Mathlib.Nat.{div-le_self}
 use borrow.Author.Rules.{rules}
 use Rattle.even.specs.Search.{next_gap}
 use Rattle.even.proofs.next_gap.Goals as goal

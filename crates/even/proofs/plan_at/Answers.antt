@@ -1,7 +1,5 @@
 -- m and s have 16 bits each, so the period and the total fit 32.
 use Rattle.even.specs.Even.{even_plan_at}
-use Rattle.spec.proofs.Products.{fits_mul}
-use borrow.Author.Rules.{rules}
 use Rattle.even.proofs.plan_at.Goals as goal
 
 pub returns : goal.returns

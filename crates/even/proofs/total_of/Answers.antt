@@ -1,6 +1,5 @@
 -- m × dmin and L are at most 65535 × 65535, and so is the larger of them.
 use Rattle.even.specs.Even.{total_of}
-use Rattle.spec.proofs.Products.{fits_mul}
 use native.Mathlib.Nat.{mul-le-mul, max-le}
 use borrow.Author.Rules.{rules}
 use Rattle.even.proofs.total_of.Goals as goal

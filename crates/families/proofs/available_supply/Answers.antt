@@ -1,12 +1,10 @@
 -- `available_closed`: the least is what ends with a period, and with the front that it leaves out it is whole periods. The figure is at
 -- most 1,000 records a minute, so that it fits (`available_most`).
 use native.Mathlib.Omega.{arith}
-use native.Mathlib.Nat.{div-le_self, mod-lt, le_of_lt}
+use native.Mathlib.Nat.{mod-lt, le_of_lt}
 use mathlib.Core.Path.{sym}
-use Rattle.spec.proofs.Products.{fits_mul}
 use Rattle.plan.proofs.Proper.{numbers}
 use Rattle.families.proofs.Figures.{front_fits, available_closed, available_most}
-use borrow.Author.Rules.{rules}
 use Rattle.families.proofs.available_supply.Goals as goal
 
 pub nonzero_rem-minutes : goal.nonzero_rem-minutes

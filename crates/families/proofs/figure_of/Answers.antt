@@ -1,7 +1,5 @@
 -- By whether the plan is proper.
-use mathlib.Core.Path.{sym, ◌∙◌}
 use Rattle.families.specs.Families.{figure_of}
-use borrow.Author.Rules.{rules}
 use Rattle.families.proofs.figure_of.Goals as goal
 
 pub returns-then-is_proper : goal.returns-then-is_proper

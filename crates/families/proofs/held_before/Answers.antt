@@ -1,7 +1,6 @@
 -- Of a proper plan what the first minutes hold is told, and not refused.
 use mathlib.Core.Path.{sym, ◌∙◌}
 use Rattle.plan.proofs.PlanMoments.{first_told, first_never}
-use borrow.Author.Rules.{rules}
 use Rattle.families.proofs.held_before.Goals as goal
 
 pub returns-in-Held : goal.returns-in-Held

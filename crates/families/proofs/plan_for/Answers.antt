@@ -4,7 +4,6 @@ use native.Mathlib.Omega.{arith}
 use mathlib.Core.Path.{◌≡◌}
 use Rattle.spec.proofs.Products.{fits_mul}
 use Rattle.families.specs.Families.{plan_for}
-use borrow.Author.Rules.{rules}
 use Rattle.families.proofs.plan_for.Goals as goal
 
 product : {n a b : ℕ} → n ≡ a * b → a ≤ 65535 → b ≤ 65535 → n < 4294967296

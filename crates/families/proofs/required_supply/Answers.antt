@@ -2,7 +2,6 @@
 use native.Mathlib.Omega.{arith}
 use Rattle.families.specs.Families.{required}
 use Rattle.families.proofs.Figures.{required_most}
-use borrow.Author.Rules.{rules}
 use Rattle.families.proofs.required_supply.Goals as goal
 
 pub overflow_cast-result : goal.overflow_cast-result

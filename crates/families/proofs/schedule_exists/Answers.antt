@@ -1,6 +1,5 @@
 -- By family; each side is one product.
 use Rattle.families.specs.Families.{exists}
-use borrow.Author.Rules.{rules}
 use Rattle.families.proofs.schedule_exists.Goals as goal
 
 pub returns-in-MinimumDemand : goal.returns-in-MinimumDemand

@@ -1,7 +1,5 @@
 -- 3, 4, 24, 25 and 5 by `started`; then what `scheduled_with` gives is the definition's by its contract.
-use mathlib.Core.Path.{sym, ◌∙◌}
 use Rattle.families.specs.Families.{schedule_for}
-use borrow.Author.Rules.{rules}
 use Rattle.families.proofs.schedule_for.Goals as goal
 
 pub returns-in_default : goal.returns-in_default

@@ -3,8 +3,6 @@ use native.Mathlib.Omega.{arith}
 use Rattle.spec.proofs.KnownRates.{known}
 use Rattle.families.proofs.Plans.{in_range, plan_proper, scheduled_none, scheduled_some}
 use mathlib.Core.Path.{sym, ◌∙◌}
-use Rattle.numbers.proofs.Negated.{held, failed}
-use borrow.Author.Rules.{rules}
 use Rattle.families.proofs.scheduled_with.Goals as goal
 
 pub returns-then-not-schedule_exists : goal.returns-then-not-schedule_exists

@@ -1,6 +1,5 @@
 -- By family.
 use Rattle.families.specs.Families.{supply_figure}
-use borrow.Author.Rules.{rules}
 use Rattle.families.proofs.supply_figure.Goals as goal
 
 pub returns-in-MinimumDemand : goal.returns-in-MinimumDemand

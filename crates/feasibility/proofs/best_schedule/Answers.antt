@@ -1,11 +1,9 @@
 -- The invariant: what is taken so far is the best from the first k to this one. It holds at the first, goes on by one k (`taken_next`), and
 -- at the last it is what is taken. Every k from the first to the last has a schedule (`exists_iff`).
-use Prim.Native.Nat.{◌-◌, ◌≤◌}
 use native.Mathlib.Omega.{arith}
 use mathlib.Core.Path.{◌≡◌, sym}
-use borrow.Author.Rules.{rules}
 use Rattle.spec.proofs.KnownRates.{known}
-use Rattle.feasibility.specs.Test.{first_count, last_count, schedule_with, taken_from, taken}
+use Rattle.feasibility.specs.Test.{last_count, taken}
 use Rattle.feasibility.proofs.Counts.{exists_iff}
 use Rattle.feasibility.proofs.Best.{taken_first, taken_next}
 use Rattle.feasibility.proofs.best_schedule.Goals as goal

@@ -1,6 +1,5 @@
 -- By the figures.
 use Rattle.feasibility.specs.Test.{better_of}
-use borrow.Author.Rules.{rules}
 use Rattle.feasibility.proofs.better_of.Goals as goal
 
 pub returns-then-is_better : goal.returns-then-is_better

@@ -1,6 +1,5 @@
 -- By family.
 use Rattle.feasibility.specs.Test.{figure_passes}
-use borrow.Author.Rules.{rules}
 use Rattle.feasibility.proofs.figure_passes.Goals as goal
 
 pub returns-in-MinimumDemand : goal.returns-in-MinimumDemand

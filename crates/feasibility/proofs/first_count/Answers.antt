@@ -4,7 +4,6 @@ use Rattle.numbers.proofs.Ceilings.{ceil_le_self}
 use Rattle.spec.proofs.Facts.{facts}
 use Rattle.spec.proofs.KnownRates.{known}
 use Rattle.feasibility.specs.Test.{first_count}
-use borrow.Author.Rules.{rules}
 use Rattle.feasibility.proofs.first_count.Goals as goal
 
 pub overflow_cast-result : goal.overflow_cast-result

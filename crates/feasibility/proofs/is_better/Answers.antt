@@ -1,6 +1,5 @@
 -- By family.
 use Rattle.feasibility.specs.Test.{is_better}
-use borrow.Author.Rules.{rules}
 use Rattle.feasibility.proofs.is_better.Goals as goal
 
 pub returns-in-MinimumDemand : goal.returns-in-MinimumDemand

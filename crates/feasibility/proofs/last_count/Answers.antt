@@ -2,7 +2,6 @@
 use Rattle.spec.proofs.Facts.{facts}
 use Rattle.spec.proofs.KnownRates.{known}
 use Rattle.feasibility.specs.Test.{last_count}
-use borrow.Author.Rules.{rules}
 use Rattle.feasibility.proofs.last_count.Goals as goal
 
 pub nonzero_div-result : goal.nonzero_div-result

@@ -2,7 +2,6 @@
 use Rattle.spec.proofs.KnownRates.{known}
 use Rattle.families.proofs.Plans.{plan_proper, figure_proper}
 use Rattle.feasibility.specs.Test.{schedule_with}
-use borrow.Author.Rules.{rules}
 use Rattle.feasibility.proofs.schedule_with.Goals as goal
 
 pub returns : goal.returns

@@ -4,7 +4,6 @@ use mathlib.Core.Path.{sym, ◌∙◌}
 use Rattle.spec.proofs.KnownRates.{known}
 use Rattle.feasibility.proofs.Counts.{some_count}
 use Rattle.feasibility.specs.Test.{test_consistent, test_of}
-use borrow.Author.Rules.{rules}
 use Rattle.feasibility.proofs.test.Goals as goal
 
 pub returns-in_default : goal.returns-in_default

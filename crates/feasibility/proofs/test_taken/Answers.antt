@@ -1,6 +1,5 @@
 -- By whether the figure passes.
 use Rattle.feasibility.specs.Test.{test_taken}
-use borrow.Author.Rules.{rules}
 use Rattle.feasibility.proofs.test_taken.Goals as goal
 
 pub returns-then-figure_passes : goal.returns-then-figure_passes

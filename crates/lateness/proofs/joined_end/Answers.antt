@@ -1,7 +1,6 @@
 -- `joined_end` meets its contract, by cases: no second range, one that touches the first, one that does not.
 use native.Mathlib.Omega.{arith}
 use mathlib.Core.Path.{sym}
-use borrow.Author.Rules.{rules}
 use Rattle.lateness.specs.PlannedSpec.{joined_end}
 use Rattle.lateness.proofs.PlannedSpec.{touching, apart}
 use Rattle.lateness.proofs.joined_end.Goals as goal

@@ -1,5 +1,4 @@
 -- `late_demand` meets its contract, by whether there is a rate.
-use borrow.Author.Rules.{rules}
 use Rattle.lateness.specs.Lateness.{late_demand}
 use Rattle.lateness.proofs.late_demand.Goals as goal
 

@@ -1,5 +1,4 @@
 -- `late_supply` meets its contract, by whether there is a rate; R of a rate in its limits leaves room for J.
-use borrow.Author.Rules.{rules}
 use Rattle.lateness.specs.Lateness.{late_supply}
 use Rattle.lateness.proofs.PlannedSpec.{minutes_fit}
 use Rattle.lateness.proofs.late_supply.Goals as goal

@@ -1,6 +1,5 @@
 -- `planned_for` meets its contract: each return is one case of where such an operation begins (proofs/Begins.antt).
 use mathlib.Core.Path.{sym, ◌∙◌}
-use borrow.Author.Rules.{rules}
 use Rattle.spec.specs.Limits.{IsAccepted}
 use Rattle.lateness.proofs.Begins.{for_refused, for_26, for_planned}
 use Rattle.lateness.proofs.planned_for.Goals.{Else-refused-ne0}

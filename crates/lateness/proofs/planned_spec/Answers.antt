@@ -1,6 +1,5 @@
 -- `planned_spec` meets its contract, field by field; the numbers of an accepted specification leave room for J.
 use native.Mathlib.Omega.{arith}
-use borrow.Author.Rules.{rules}
 use Rattle.spec.proofs.Facts.{facts}
 use Rattle.lateness.specs.PlannedSpec.{planned_spec}
 use Rattle.lateness.proofs.planned_spec.Goals as goal

@@ -1,5 +1,4 @@
 -- `shortened` meets its contract, by whether there is a range; bounds in their limits leave room for J.
-use borrow.Author.Rules.{rules}
 use Rattle.lateness.specs.PlannedSpec.{shortened}
 use Rattle.lateness.proofs.PlannedSpec.{bound_fits}
 use Rattle.lateness.proofs.shortened.Goals as goal

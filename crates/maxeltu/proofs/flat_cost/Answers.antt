@@ -6,7 +6,6 @@ use Rattle.answers.specs.Answers.{bill_answer}
 use Rattle.answers.proofs.Places.{after_refusal}
 use Rattle.maxeltu.specs.Calls.{cycle_cost_call}
 use Rattle.maxeltu.proofs.GivenSpec.{not_read, was_read}
-use borrow.Author.Rules.{rules}
 use Rattle.maxeltu.proofs.flat_cost.Goals as goal
 
 pub returns-in_default : goal.returns-in_default

@@ -2,7 +2,6 @@
 use mathlib.Core.Path.{refl}
 use Rattle.maxeltu.specs.Calls.{between_call}
 use Rattle.answers.proofs.Places.{after_refusal}
-use borrow.Author.Rules.{rules}
 use Rattle.maxeltu.proofs.maxeltu_between.Goals as goal
 
 pub returns-in_default : goal.returns-in_default

@@ -5,7 +5,6 @@ use Rattle.answers.proofs.Places.{after_refusal}
 use Rattle.maxeltu.proofs.GivenSpec.{not_read, was_read}
 use Rattle.answers.specs.Answers.{consistency_answer}
 use Rattle.consistency.specs.Consistency.{consistency_of}
-use borrow.Author.Rules.{rules}
 use Rattle.maxeltu.proofs.maxeltu_consistency.Goals as goal
 
 pub returns-in_default : goal.returns-in_default

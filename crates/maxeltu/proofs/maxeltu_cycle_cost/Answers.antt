@@ -1,5 +1,5 @@
 -- The bill is of the pairs that the words hold, and more than 512 are answered as none are.
-use mathlib.Core.Path.{ap, sym, ◌∙◌}
+use mathlib.Core.Path.{ap, ◌∙◌}
 use mathlib.Core.List.{List}
 use Rattle.pairs.specs.declared.Pair.{Pair}
 use Rattle.maxeltu.specs.Calls.{cycle_cost_call}

@@ -1,5 +1,4 @@
 -- The numbers are laid into a table; the place is that of the answer with the duty minute.
-use borrow.Author.Rules.{rules}
 use Rattle.maxeltu.specs.Calls.{duty_call}
 use Rattle.maxeltu.proofs.maxeltu_duty_minute.Goals as goal
 

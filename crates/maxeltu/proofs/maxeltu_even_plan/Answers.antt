@@ -5,7 +5,6 @@ use Rattle.answers.specs.Answers.{even_answer}
 use Rattle.answers.proofs.Places.{after_refusal}
 use Rattle.maxeltu.proofs.GivenSpec.{not_read, was_read}
 use Rattle.even.specs.Even.{even_plan}
-use borrow.Author.Rules.{rules}
 use Rattle.maxeltu.proofs.maxeltu_even_plan.Goals as goal
 
 pub returns-in_default : goal.returns-in_default

@@ -1,7 +1,5 @@
 -- A meter that was made is stored where its number is 0, and then it is a fresh one; else the lent one stays.
-use mathlib.Core.Path.{ap, subst, ◌∙◌}
-use lib.Dec.{T, eqb}
-use mathlib.Core.Bool.{not}
+use mathlib.Core.Path.{ap, ◌∙◌}
 use borrow.Author.Tests.{ne_eqb}
 use Rattle.spec.specs.File.{read_spec}
 use Rattle.meter.specs.declared.Made.{Made}

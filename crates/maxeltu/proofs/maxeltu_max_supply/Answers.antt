@@ -6,7 +6,6 @@ use Rattle.maxeltu.proofs.GivenSpec.{not_read, was_read}
 use Rattle.answers.specs.Answers.{scheduled_answer}
 use Rattle.families.specs.Families.{schedule_for}
 use Rattle.families.specs.declared.Family.TheVariants.{MaximumSupply}
-use borrow.Author.Rules.{rules}
 use Rattle.maxeltu.proofs.maxeltu_max_supply.Goals as goal
 
 pub returns-in_default : goal.returns-in_default

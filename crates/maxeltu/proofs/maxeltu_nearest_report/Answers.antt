@@ -2,7 +2,6 @@
 use mathlib.Core.Path.{refl}
 use Rattle.maxeltu.specs.Calls.{nearest_call}
 use Rattle.answers.proofs.Places.{after_refusal}
-use borrow.Author.Rules.{rules}
 use Rattle.maxeltu.proofs.maxeltu_nearest_report.Goals as goal
 
 pub returns-in_default : goal.returns-in_default

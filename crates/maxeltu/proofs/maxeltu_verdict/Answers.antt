@@ -8,7 +8,6 @@ use lib.Seq.{length-take-le}
 use Rattle.cyclefile.specs.declared.reading.CycleFile.TheVariants.{Pairs}
 use Rattle.cyclefile.proofs.ReadWords.{FrontPairs, within, words_read, words_refused}
 use Rattle.maxeltu.proofs.VerdictCases.{spec_refused, file_refused, both_read}
-use borrow.Author.Rules.{rules}
 use Rattle.maxeltu.proofs.maxeltu_verdict.Goals.{After-read}
 use Rattle.maxeltu.proofs.maxeltu_verdict.Goals as goal
 

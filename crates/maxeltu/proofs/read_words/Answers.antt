@@ -1,9 +1,7 @@
 -- `read_words` meets its contract, by the answer of `read` (`ListReadings`).
 use native.Mathlib.Omega.{arith}
 use mathlib.Core.Path.{sym, ◌∙◌}
-use Rattle.cyclefile.proofs.WholeFile.{counted, not_read}
-use Rattle.maxeltu.proofs.ListReadings.{all_read, none_read}
-use borrow.Author.Rules.{rules}
+use Rattle.cyclefile.proofs.WholeFile.{counted}
 use Rattle.maxeltu.proofs.read_words.Goals as goal
 
 pub overflow_cast-count : goal.overflow_cast-count

@@ -1,14 +1,9 @@
 -- `aged_of` meets its contract. The invariant: the k reports passed are w minutes old or older, so that the walk over the others gives what is left of
 -- the count, and `records` is their sum, each at most 65,535. The measure is what is left of the ring.
 use Prim.Native.Nat.{◌+◌, ◌*◌, ◌-◌, ◌≤◌}
-use native.Mathlib.Omega.{arith}
-use mathlib.Core.Path.{◌≡◌, sym, ◌∙◌}
-use borrow.Author.Rules.{rules}
-use borrow.Author.Tests.{not-true, not-false}
+use mathlib.Core.Path.{◌≡◌}
 use Rattle.schedule.specs.Schedules.{sum}
-use Rattle.schedule.proofs.Sums.{sum_none, sum_more}
 use Rattle.meter.specs.Ring.{ring_report, aged_from}
-use Rattle.meter.proofs.Steps.{walk_starts, walk_goes_on, walk_stops, walk_ends}
 use Rattle.meter.proofs.aged_of.Given as goal
 
 abbrev pub invariant-loop-k : goal.invariant-loop-k

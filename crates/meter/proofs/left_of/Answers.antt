@@ -1,7 +1,6 @@
 -- `left_of` meets its contract, path by path.
 use borrow.Author.Tests.{eq-eqb, ne_eqb}
 use Rattle.meter.specs.Ring.{left_of}
-use borrow.Author.Rules.{rules}
 use Rattle.meter.proofs.left_of.Goals as goal
 
 pub returns-then-window-eq0 : goal.returns-then-window-eq0

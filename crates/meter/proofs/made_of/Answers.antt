@@ -1,6 +1,5 @@
 -- `made_of` meets its contract, by the two answers of a reader.
 use Rattle.meter.specs.Ring.{made}
-use borrow.Author.Rules.{rules}
 use Rattle.meter.proofs.made_of.Goals as goal
 
 pub returns-in_default : goal.returns-in_default

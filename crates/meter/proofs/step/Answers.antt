@@ -1,20 +1,14 @@
 -- `step` meets its contract. The walk gives `aged`, what is left of the records is `used`, and the four tests are the definition's: so the number is.
 -- Of an offer that is accepted the tests say that what is stored fits: the size is at most dmax, the records are at most the budget, and fewer than
 -- 1,024 reports count. Where the ways meet again, the meter is the one that was changed or the one that was handed in.
-use Prim.Native.Nat.{ℕ, ◌+◌, ◌-◌, ◌≤◌, ◌<◌}
-use native.Mathlib.Omega.{arith}
-use mathlib.Core.Path.{◌≡◌, sym, ◌∙◌}
-use mathlib.Core.Logic.{⊎_elim}
+use Prim.Native.Nat.{ℕ, ◌+◌, ◌-◌}
+use mathlib.Core.Path.{◌≡◌, ◌∙◌}
 use mathlib.Core.Bool.{not}
 use lib.Dec.{leb, ltb}
-use borrow.Author.Rules.{rules}
-use borrow.Author.Tests.{ltb-false, leb-false, not-false}
 use Rattle.spec.specs.Limits.{between}
-use Rattle.spec.proofs.Facts.{between_iff}
 use Rattle.meter.specs.declared.Meter.{Meter}
 use Rattle.meter.specs.Plain.{first_of}
 use Rattle.meter.specs.Ring.{aged, used, early_of, ring_number}
-use Rattle.meter.proofs.Offers.{Passed, passed}
 use Rattle.meter.proofs.Steps.{aged_is, used_is, number_is, step_refused, step_accepted, ways_meet}
 use Rattle.meter.proofs.step.Goals.{After-first_of-number, then-number-eq0, else-number-eq0}
 use Rattle.meter.proofs.step.Goals as goal
@@ -54,10 +48,10 @@ pub returns : goal.returns
 returns c =
     let end = (goal.at.returns c).After-first_of-number in
     elim c.if-number-eq0.branch [
-      then-number-eq0 w ↦
+      | then-number-eq0 w ↦
           ways_meet _ _ _ _ _ _ w.next-is w.records-is c.left_of-left.ensures
           ∙ step_accepted (m end) (t end) (d end) _ _ _ _ _ (found end) w.if-number-eq0.true (out-is end) (held-is end) w.place.ensures.0 w.place-at.ensures.0
-    | else-number-eq0 w ↦
+      | else-number-eq0 w ↦
           ways_meet _ _ _ _ _ _ w.next-is w.records-is c.left_of-left.ensures
           ∙ step_refused (m end) (t end) (d end) _ _ (found end) w.if-number-eq0.false (held-is end)
     ]

@@ -1,9 +1,7 @@
 -- The quotient rounded down, and one more where it leaves something over.
 use native.Mathlib.Omega.{arith}
-use native.Mathlib.Nat.{div-mul-le_self}
 use mathlib.Core.Path.{sym}
-use Rattle.numbers.proofs.Ceilings.{ceil_zero, ceil_whole, ceil_part, quotient_below}
-use borrow.Author.Rules.{rules}
+use Rattle.numbers.proofs.Ceilings.{ceil_zero, ceil_whole, ceil_part}
 use Rattle.numbers.proofs.ceil_div.Goals as goal
 
 pub returns-then-b-eq0 : goal.returns-then-b-eq0

@@ -1,9 +1,8 @@
 -- Each turn packs one pair more, and at the end all that fit are packed.
 use Rattle.std.proofs.Common.{◌<◌, ◌/◌, length, arith}
-use mathlib.Core.Path.{sym, ap, ◌∙◌}
-use lib.ListN.{set}
+use mathlib.Core.Path.{◌∙◌}
 use Rattle.pairs.proofs.Counts.{copied_least}
-use Rattle.pairs.proofs.Packed.{packed_next, packed_done, word_pair}
+use Rattle.pairs.proofs.Packed.{packed_next, packed_done}
 use Rattle.pairs.proofs.pack.Goals as goal
 
 pub loop-i-preserved : goal.loop-i-preserved

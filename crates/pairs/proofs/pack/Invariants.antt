@@ -1,7 +1,6 @@
 -- While i pairs are packed: the lent list holds them in front.
-use Prim.Native.Nat.{ℕ, ◌*◌, ◌-◌, ◌≤◌}
+use Prim.Native.Nat.{◌-◌, ◌≤◌}
 use mathlib.Core.Path.{◌≡◌}
-use lib.ListN.{length}
 use Rattle.pairs.proofs.Packed.{packed}
 use Rattle.pairs.proofs.pack.Given as goal
 

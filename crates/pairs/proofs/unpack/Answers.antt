@@ -1,6 +1,5 @@
 -- Each turn lays one pair more.
 use Rattle.std.proofs.Common.{◌<◌, ◌+◌, ◌*◌, ◌/◌, length, arith}
-use lib.ListN.{set}
 use Rattle.pairs.proofs.Counts.{copied_least}
 use Rattle.pairs.proofs.Unpacked.{laid_next}
 use Rattle.pairs.proofs.unpack.Goals as goal

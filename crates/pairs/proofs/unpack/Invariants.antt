@@ -1,7 +1,6 @@
 -- While i pairs are laid: the words hold them in front, and all of `todo` have room.
-use Prim.Native.Nat.{ℕ, ◌*◌, ◌-◌, ◌≤◌}
+use Prim.Native.Nat.{◌-◌, ◌≤◌}
 use mathlib.Core.Path.{◌≡◌}
-use lib.ListN.{length}
 use Rattle.pairs.proofs.Unpacked.{laid}
 use Rattle.pairs.proofs.unpack.Given as goal
 

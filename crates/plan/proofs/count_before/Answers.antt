@@ -5,7 +5,6 @@ use mathlib.Core.Path.{sym}
 use Rattle.plan.proofs.Proper.{numbers}
 use Rattle.plan.proofs.Minutes.{within_before}
 use Rattle.plan.proofs.PlanCounts.{reports_closed, reports_few}
-use borrow.Author.Rules.{rules}
 use Rattle.plan.proofs.count_before.Goals as goal
 
 pub nonzero_div-gap : goal.nonzero_div-gap

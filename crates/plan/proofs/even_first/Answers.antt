@@ -1,7 +1,5 @@
 -- The code is the formula. The product has at most 33 and 25 bits.
-use Rattle.spec.proofs.Products.{fits_mul}
 use Rattle.plan.specs.Plans.{even_first}
-use borrow.Author.Rules.{rules}
 use Rattle.plan.proofs.even_first.Goals as goal
 
 pub returns : goal.returns

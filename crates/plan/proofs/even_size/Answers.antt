@@ -4,7 +4,6 @@ use native.Mathlib.Nat.{mul_comm, le_trans, le-mul_of_pos_right}
 use mathlib.Core.Path.{refl}
 use Rattle.plan.specs.Plans.{even_size}
 use Rattle.plan.proofs.EvenSizes.{first_more, even_size_most}
-use borrow.Author.Rules.{rules}
 use Rattle.plan.proofs.even_size.Goals as goal
 
 pub overflow_sub-result : goal.overflow_sub-result

@@ -1,5 +1,4 @@
 -- Each early answer falsifies one part of `proper`; after them all bounds hold, and the part of the kind is left.
-use borrow.Author.Rules.{rules}
 use borrow.Author.Tests.{lt-leb}
 use mathlib.Core.Bool.{and-false}
 use native.Mathlib.Omega.{arith}

@@ -1,8 +1,6 @@
 -- What `held_by_first` sums up, of a proper plan.
 use mathlib.Core.Path.{sym, ◌∙◌}
-use borrow.Author.Tests.{not-true, not-false}
 use Rattle.plan.proofs.Answers.{not_counted, counted}
-use borrow.Author.Rules.{rules}
 use Rattle.plan.proofs.records_of_first.Goals as goal
 
 pub returns-then-not-is_proper : goal.returns-then-not-is_proper

@@ -1,9 +1,6 @@
 -- By cases on the kind, the laws of `Answers`; a proper plan's numbers keep every product and cast small.
 use native.Mathlib.Omega.{arith}
 use mathlib.Core.Path.{refl, sym, ◌∙◌}
-use borrow.Author.Tests.{not-true, not-false}
-use native.Mathlib.Nat.{div-le_self}
-use Rattle.spec.proofs.Products.{fits_mul}
 use Rattle.plan.proofs.Proper.{tested_bounds}
 use Rattle.plan.proofs.Answers.{not_proper, well_reported, even_reported}
 use borrow.Author.Rules.{rules}

@@ -3,7 +3,6 @@ use native.Mathlib.Omega.{arith}
 use native.Mathlib.Nat.{div-le_self, add-zero}
 use borrow.Author.Tests.{lt-ltb, le-ltb}
 use Rattle.plan.specs.Plans.{well_size}
-use borrow.Author.Rules.{rules}
 use Rattle.plan.proofs.well_size.Goals as goal
 
 pub returns-then-i-k : goal.returns-then-i-k

@@ -1,5 +1,4 @@
 -- The code asks for the number first, as the definition does.
-use borrow.Author.Rules.{rules}
 use borrow.Author.Tests.{eq-eqb, ne_eqb}
 use Rattle.spec.specs.Limits.{if_none}
 use Rattle.spec.proofs.accepted.Goals as goal

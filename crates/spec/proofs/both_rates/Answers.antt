@@ -1,6 +1,5 @@
 -- By whether each rate is there.
 use Rattle.spec.specs.Rates.{rates_from, both_rates}
-use borrow.Author.Rules.{rules}
 use Rattle.spec.proofs.both_rates.Goals as goal
 
 pub returns-in-Absent : goal.returns-in-Absent

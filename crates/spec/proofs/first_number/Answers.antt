@@ -1,5 +1,4 @@
 -- The tests are those of the definition, in its order.
-use borrow.Author.Tests.{not-true, not-false}
 use Rattle.spec.specs.Limits.{first_number}
 use Rattle.spec.proofs.first_number.Goals as goal
 

@@ -1,5 +1,4 @@
 -- Each test is one part of the definition, in its order.
-use borrow.Author.Rules.{rules}
 use Rattle.spec.specs.Limits.{gap_allowed}
 use Rattle.spec.proofs.gap_allowed.Goals as goal
 

@@ -1,5 +1,4 @@
 -- Each call gives one part of the definition, in its order.
-use borrow.Author.Rules.{rules}
 use Rattle.spec.specs.Limits.{limits}
 use Rattle.spec.proofs.in_limits.Goals as goal
 

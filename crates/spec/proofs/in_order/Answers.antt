@@ -1,5 +1,4 @@
 -- Each comparison is one part of the definition, in its order.
-use borrow.Author.Rules.{rules}
 use Rattle.spec.specs.Limits.{order}
 use Rattle.spec.proofs.in_order.Goals as goal
 

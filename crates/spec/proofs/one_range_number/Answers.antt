@@ -2,7 +2,6 @@
 use mathlib.Core.Path.{◌∙◌, sym}
 use Rattle.spec.specs.Rates.{one_range_number}
 use Rattle.spec.proofs.GoingOn.{goes_on, stops}
-use borrow.Author.Rules.{rules}
 use Rattle.spec.proofs.one_range_number.Goals as goal
 
 pub returns-then-n-ne0 : goal.returns-then-n-ne0

@@ -1,6 +1,4 @@
 -- The tests are those of `read_spec`, in its order; the laws of `File` say what it gives after each.
-use borrow.Author.Rules.{rules}
-use borrow.Author.Tests.{not-true, not-false}
 use native.Mathlib.Omega.{arith}
 use mathlib.Core.Path.{◌∙◌, ap}
 use Rattle.spec.specs.File.{read_spec, accept}

@@ -1,6 +1,5 @@
 -- By cases on the range, as the definition goes.
 use Rattle.spec.specs.Rates.{second_number}
-use borrow.Author.Rules.{rules}
 use Rattle.spec.proofs.second_number.Goals as goal
 
 pub returns-in-Absent : goal.returns-in-Absent

@@ -1,6 +1,5 @@
 -- Each call gives one part of the definition.
 use Rattle.spec.specs.Limits.{spec_number}
-use borrow.Author.Rules.{rules}
 use Rattle.spec.proofs.spec_number.Goals as goal
 
 pub returns : goal.returns

@@ -1,5 +1,4 @@
 -- 3, 4, 24 and 25 first, as the definition has it.
-use borrow.Author.Rules.{rules}
 use mathlib.Core.Path.{◌∙◌, sym, ap}
 use Rattle.spec.specs.declared.BothRates.TheVariants.{Refused}
 use Rattle.spec.specs.Rates.{started}

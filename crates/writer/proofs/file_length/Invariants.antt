@@ -1,17 +1,11 @@
 -- `cyclefile::writing::file_length` meets its contract. The loop's invariant: the bytes passed and those of the pairs left are the file's; a pair
 -- has at most 5, so that no sum wraps. Assumes nothing.
-use mathlib.Core.Path.{◌≡◌, sym}
-use Prim.Native.Nat.{◌+◌, ◌*◌, ◌-◌, ◌≤◌, zero-le}
-use native.Mathlib.Nat.{le_refl}
-use native.Mathlib.Omega.{arith}
-use lib.ListN.{length, drop, get_or}
-use borrow.Author.Rules.{rules}
-use Rattle.pairs.specs.Pairs.{pairs_of, no_pair}
-use Rattle.pairs.proofs.FlatLists.{length_pairs_of}
+use mathlib.Core.Path.{◌≡◌}
+use Prim.Native.Nat.{◌+◌, ◌*◌, ◌-◌, ◌≤◌}
+use lib.ListN.{length, drop}
+use Rattle.pairs.specs.Pairs.{pairs_of}
 use Rattle.cyclefile.specs.File.{pairs_bytes, cycle_bytes}
 use Rattle.writer.specs.InnerPromises.{before_of}
-use Rattle.cyclefile.proofs.Fields.{length_cycle_bytes, pair_bytes_small}
-use Rattle.writer.proofs.StoredBytes.{left_next, left_none}
 use Rattle.writer.proofs.file_length.Given as goal
 
 abbrev pub invariant-loop-i : goal.invariant-loop-i

@@ -1,8 +1,5 @@
 -- `cyclefile::writing::passed` meets its contract: the bytes of a pair are its map and its fields. Assumes nothing.
-use native.Mathlib.Omega.{arith}
-use Rattle.cyclefile.proofs.Fields.{field_length_small}
 use Rattle.cyclefile.proofs.Fields.{length_pair_bytes}
-use borrow.Author.Rules.{rules}
 use Rattle.writer.proofs.passed.Goals as goal
 
 pub returns : goal.returns

@@ -9,7 +9,6 @@ use Rattle.cyclefile.specs.File.{pair_bytes}
 use Rattle.writer.specs.InnerPromises.{before_of}
 use Rattle.cyclefile.proofs.Fields.{length_pair_bytes}
 use Rattle.writer.proofs.StoredBytes.{pair_stored}
-use borrow.Author.Rules.{rules}
 use Rattle.writer.proofs.put_pair.Goals as goal
 
 pub bounds-file-at : goal.bounds-file-at

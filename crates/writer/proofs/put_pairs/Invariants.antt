@@ -1,17 +1,12 @@
 -- `cyclefile::writing::put_pairs` meets its contract. The loop's invariant: storing the pairs that are left, at the cursor, gives what is to be
 -- there at the end; a turn stores the first of them (`stored_next`). Assumes nothing.
-use mathlib.Core.Path.{◌≡◌, refl, ◌∙◌}
-use Prim.Native.Nat.{◌+◌, ◌-◌, ◌≤◌, ◌<◌, zero-le}
-use native.Mathlib.Omega.{arith}
+use mathlib.Core.Path.{◌≡◌}
+use Prim.Native.Nat.{◌+◌, ◌-◌, ◌≤◌}
 use lib.ListN.{length, drop}
-use lib.Seq.{sets, length-sets}
-use borrow.Author.Rules.{rules}
+use lib.Seq.{sets}
 use Rattle.pairs.specs.Pairs.{pairs_of}
-use Rattle.pairs.proofs.FlatLists.{length_pairs_of}
 use Rattle.cyclefile.specs.File.{none, pairs_bytes}
 use Rattle.writer.specs.InnerPromises.{before_of}
-use Rattle.cyclefile.proofs.Fields.{length_cycle_bytes}
-use Rattle.writer.proofs.StoredBytes.{left_next, left_none, stored_next}
 use Rattle.writer.proofs.put_pairs.Given as goal
 
 abbrev pub invariant-loop-i : goal.invariant-loop-i

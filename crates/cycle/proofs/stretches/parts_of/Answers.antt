@@ -4,13 +4,12 @@ use Prim.Native.Nat.{ℕ, ◌-◌, ◌≤◌, ◌<◌}
 use native.Mathlib.Omega.{arith}
 use native.Mathlib.Nat.{mod-lt}
 use mathlib.Core.List.{List}
-use borrow.Author.Rules.{rules}
 use Rattle.pairs.specs.Pairs.{pairs_of}
 use Rattle.pairs.proofs.FlatLists.{length_pairs_of}
 use Rattle.cycle.specs.Cycles.{round}
 use Rattle.cycle.specs.Windows.{Walkable}
 use Rattle.cycle.proofs.Runs.{round_some}
-use Rattle.cycle.proofs.Rounds.{parts_add, rounds_most, rounds_fit, rest_fits}
+use Rattle.cycle.proofs.Rounds.{parts_add, rounds_most}
 use Rattle.cycle.proofs.stretches.parts_of.Goals as goal
 
 some_minutes : (l : List ℕ) → Walkable l → 1 ≤ round (pairs_of l)

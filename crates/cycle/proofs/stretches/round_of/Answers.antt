@@ -1,16 +1,13 @@
 -- `round_of` meets its contract. The invariant: the minutes and the records of the first i reports, of which each has at most 65,535.
-use Prim.Native.Nat.{◌*◌, ◌-◌, ◌≤◌}
 use native.Mathlib.Omega.{arith}
 use mathlib.Core.Path.{◌≡◌, sym}
 use lib.ListN.{length}
 use borrow.Author.Rules.{rules}
 use Rattle.pairs.specs.Pairs.{pairs_of}
 use Rattle.pairs.proofs.FlatLists.{length_pairs_of}
-use Rattle.schedule.specs.Schedules.{sum, minute}
 use Rattle.schedule.proofs.Sums.{sum_none, sum_more}
 use Rattle.schedule.proofs.Before.{minute_none, minute_more}
 use Rattle.cycle.specs.Cycles.{round, round_records}
-use Rattle.cycle.specs.Windows.{run_of}
 use Rattle.cycle.proofs.stretches.round_of.Goals as goal
 
 pub loop-i-init : goal.loop-i-init

@@ -2,20 +2,11 @@
 -- and the rule passed at every report before `first`. Once the window is filled, it holds what those minutes from report `first` hold, and
 -- with the whole rounds what all the minutes hold: so each turn judges the stretch that starts at its report. The window's first report
 -- is then let go; its end stays, for no stretch ends before the one that started a report earlier.
-use Prim.Native.Nat.{ℕ, ◌-◌, ◌/◌, ◌≤◌, ◌<◌}
-use native.Mathlib.Omega.{arith}
-use mathlib.Core.Path.{◌≡◌, ◌∙◌}
+use Prim.Native.Nat.{ℕ, ◌-◌, ◌≤◌, ◌<◌}
+use mathlib.Core.Path.{◌≡◌}
 use mathlib.Core.Bool.{true}
-use mathlib.Core.List.{List}
-use lib.ListN.{length}
-use borrow.Author.Count.{below_more}
-use borrow.Author.Rules.{rules}
-use Rattle.numbers.proofs.All.{all_pass, one_fails}
-use Rattle.numbers.proofs.Negated.{held, failed}
-use Rattle.pairs.proofs.FlatLists.{length_pairs_of}
 use Rattle.schedule.specs.Schedules.{minute, stretch}
-use Rattle.cycle.specs.Windows.{run_of, Spans, rule_passes, starts_pass}
-use Rattle.cycle.proofs.MovingWindow.{spans_none, spans_without, first_inside, first_there, passes_here, past_fits}
+use Rattle.cycle.specs.Windows.{run_of, Spans, rule_passes}
 use Rattle.cycle.proofs.stretches.starts_pass.Given as goal
 
 abbrev pub invariant-loop-w : goal.invariant-loop-w

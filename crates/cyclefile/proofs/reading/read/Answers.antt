@@ -2,15 +2,12 @@
 -- numbers. Assumes nothing.
 use mathlib.Core.Path.{◌≡◌, sym, ◌∙◌}
 use Prim.Native.Nat.{ℕ, ◌/◌, min}
-use native.Mathlib.Omega.{arith}
 use mathlib.Core.Bool.{true}
 use mathlib.Core.List.{List}
 use lib.ListN.{length}
-use borrow.Author.Tests.{not-true, not-false}
 use Rattle.pairs.specs.Pairs.{count_in}
 use Rattle.spec.specs.File.{word}
 use Rattle.cyclefile.proofs.WholeFile.{at_once, no_count, bad_count, few_places, pair_by_pair, few_of_two, enough_of_two}
-use borrow.Author.Rules.{rules}
 use Rattle.cyclefile.proofs.reading.read.Goals.{Else-not-count_in}
 use Rattle.cyclefile.proofs.reading.read.Goals as goal
 

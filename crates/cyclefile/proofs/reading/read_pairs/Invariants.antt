@@ -1,16 +1,12 @@
 -- `cyclefile::reading::read_pairs` meets its contract. The invariant: what is left of the file, read after the pairs that are stored, decides
 -- the answer and the words at the end (`pass_from`). A step stores its pair, stops with its refusal, or none is left. Assumes nothing.
-use mathlib.Core.Path.{◌≡◌, refl, sym, ap, ◌∙◌}
-use Prim.Native.Nat.{ℕ, suc, ◌+◌, ◌-◌, ◌≤◌, zero-le}
-use native.Mathlib.Omega.{arith}
-use mathlib.Core.List.{List}
+use mathlib.Core.Path.{◌≡◌}
+use Prim.Native.Nat.{◌-◌, ◌≤◌}
 use lib.Dec.{eqb}
-use lib.ListN.{length, drop, length-drop, length-set}
-use borrow.Author.Rules.{rules}
-use Rattle.cyclefile.specs.declared.reading.CycleFile.{CycleFile}
+use lib.ListN.{length, drop}
 use Rattle.cyclefile.specs.File.{none}
 use Rattle.cyclefile.specs.InnerPromises.{before_is}
-use Rattle.cyclefile.proofs.OnePass.{Outcome, pass_from, pass_whole, step_within, pass_next, pass_refused, pass_end, pass_over}
+use Rattle.cyclefile.proofs.OnePass.{pass_from}
 use Rattle.cyclefile.proofs.reading.read_pairs.Given as goal
 
 abbrev pub invariant-loop-i : goal.invariant-loop-i

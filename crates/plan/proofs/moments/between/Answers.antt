@@ -1,8 +1,6 @@
 -- The cases of `between_of`: what lies between is what lies before b, less what lies before a.
 use mathlib.Core.Path.{sym, ◌∙◌}
-use borrow.Author.Tests.{not-true, not-false}
 use Rattle.plan.proofs.PlanMoments.{not_told, backwards, fronts_rise, told_between}
-use borrow.Author.Rules.{rules}
 use Rattle.plan.proofs.moments.between.Goals as goal
 
 pub returns-then-not-is_proper : goal.returns-then-not-is_proper

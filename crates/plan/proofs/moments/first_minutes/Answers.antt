@@ -1,9 +1,7 @@
 -- What `front_of` holds, of a proper plan.
 use native.Mathlib.Omega.{arith}
 use mathlib.Core.Path.{sym, ◌∙◌}
-use borrow.Author.Tests.{not-true, not-false}
 use Rattle.plan.proofs.PlanMoments.{not_told, told}
-use borrow.Author.Rules.{rules}
 use Rattle.plan.proofs.moments.first_minutes.Goals as goal
 
 pub returns-then-not-is_proper : goal.returns-then-not-is_proper

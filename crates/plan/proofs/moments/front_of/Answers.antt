@@ -1,6 +1,5 @@
 -- The reports before minute x are the first, and hold what so many first reports hold.
 use Rattle.plan.proofs.PlanMoments.{front_held}
-use borrow.Author.Rules.{rules}
 use Rattle.plan.proofs.moments.front_of.Goals as goal
 
 pub returns : goal.returns

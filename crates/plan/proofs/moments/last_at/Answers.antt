@@ -1,7 +1,6 @@
 -- Of the reports before the next minute, the last: `reports_until`.
 use native.Mathlib.Omega.{arith}
 use Rattle.plan.proofs.PlanMoments.{last_of_those}
-use borrow.Author.Rules.{rules}
 use Rattle.plan.proofs.moments.last_at.Goals as goal
 
 pub overflow_sub-result : goal.overflow_sub-result

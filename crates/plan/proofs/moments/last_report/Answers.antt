@@ -1,8 +1,6 @@
 -- What `last_at` finds, of a proper plan.
 use mathlib.Core.Path.{sym, ◌∙◌}
-use borrow.Author.Tests.{not-true, not-false}
 use Rattle.plan.proofs.PlanMoments.{no_number, numbered}
-use borrow.Author.Rules.{rules}
 use Rattle.plan.proofs.moments.last_report.Goals as goal
 
 pub returns-then-not-is_proper : goal.returns-then-not-is_proper

@@ -2,7 +2,6 @@
 use native.Mathlib.Omega.{arith}
 use Rattle.plan.proofs.Proper.{proper_bounds}
 use Rattle.plan.proofs.PlanMoments.{enclosed, choose_last, choose_next}
-use borrow.Author.Rules.{rules}
 use Rattle.plan.proofs.moments.nearest_to.Goals as goal
 
 pub well_minute-here-requires : goal.well_minute-here-requires

@@ -1,8 +1,6 @@
 -- `cyclefile::reading::steps::step_at` meets its contract: each `return` is a case of `PlainSteps`. Assumes nothing.
 use mathlib.Core.Path.{sym, ◌∙◌}
-use native.Mathlib.Omega.{arith}
 use Rattle.cyclefile.proofs.PlainSteps.{step_none, step_wrong, step_cut, step_vain, step_taken}
-use borrow.Author.Rules.{rules}
 use Rattle.cyclefile.proofs.reading.steps.step_at.Goals as goal
 
 pub returns-then-left-eq0 : goal.returns-then-left-eq0
