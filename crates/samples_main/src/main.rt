@@ -10,8 +10,8 @@ use feasibility::Tested;
 use meter::{Left, Meter};
 use plan::moments::{Contents, Found};
 use plan::{Kind, Plan, Reported, moments};
-use std::io;
 use spec::{Range, Rate, Spec, SpecRead};
+use std::io;
 
 // A sample with a second range of gaps, which may be absent.
 fn sample_with(
@@ -57,32 +57,29 @@ fn number(rt: &impl Print, n: u64) -> io::Result<()> {
 }
 
 fn end(rt: &impl Print) -> io::Result<()> {
-    text(rt, "\n")?;
+    text(rt, "\n")
 }
 
 fn refused(rt: &impl Print, n: u32) -> io::Result<()> {
     text(rt, " refused")?;
     number(rt, n as u64)?;
-    end(rt)?;
+    end(rt)
 }
 
 // k, period and total.
 fn numbers_of(rt: &impl Print, p: Plan) -> io::Result<()> {
     number(rt, p.count as u64)?;
     number(rt, p.period as u64)?;
-    number(rt, p.total as u64)?;
+    number(rt, p.total as u64)
 }
 
 fn report(rt: &impl Print, p: Plan, i: u32) -> io::Result<()> {
-    let found = plan::report(p, i);
-    match found {
+    match plan::report(p, i) {
         Reported::At { minute, size } => {
             number(rt, minute)?;
-            number(rt, size as u64)?;
+            number(rt, size as u64)
         }
-        Reported::Refused(n) => {
-            number(rt, n as u64)?;
-        }
+        Reported::Refused(n) => number(rt, n as u64),
     }
 }
 
@@ -93,7 +90,7 @@ fn reports(rt: &impl Print, p: Plan) -> io::Result<()> {
     report(rt, p, 1)?;
     report(rt, p, 2)?;
     report(rt, p, 3)?;
-    end(rt)?;
+    end(rt)
 }
 
 fn schedule(rt: &impl Print, s: Scheduled) -> io::Result<()> {
@@ -102,89 +99,70 @@ fn schedule(rt: &impl Print, s: Scheduled) -> io::Result<()> {
             numbers_of(rt, p)?;
             number(rt, supply as u64)?;
             end(rt)?;
-            reports(rt, p)?;
+            reports(rt, p)
         }
-        Scheduled::Refused(n) => {
-            refused(rt, n)?;
-        }
+        Scheduled::Refused(n) => refused(rt, n),
     }
 }
 
 fn minimum_demand(rt: &impl Print, s: Spec, k: u32) -> io::Result<()> {
     text(rt, "  minimum demand")?;
-    schedule(rt, families::schedule_for(Family::MinimumDemand, s, k))?;
+    schedule(rt, families::schedule_for(Family::MinimumDemand, s, k))
 }
 
 fn maximum_supply(rt: &impl Print, s: Spec, k: u32) -> io::Result<()> {
     text(rt, "  maximum supply")?;
-    schedule(rt, families::schedule_for(Family::MaximumSupply, s, k))?;
+    schedule(rt, families::schedule_for(Family::MaximumSupply, s, k))
 }
 
 // The condition that failed first.
 fn inconsistent(rt: &impl Print, c: Condition) -> io::Result<()> {
     text(rt, " inconsistent")?;
     number(rt, answers::condition_number(c) as u64)?;
-    end(rt)?;
+    end(rt)
 }
 
 fn consistency(rt: &impl Print, s: Spec) -> io::Result<()> {
     text(rt, "  consistency")?;
-    let found = consistency::consistency_of(s);
-    match found {
+    match consistency::consistency_of(s) {
         Consistency::Consistent => {
             number(rt, 0)?;
-            end(rt)?;
+            end(rt)
         }
-        Consistency::Inconsistent(c) => {
-            inconsistent(rt, c)?;
-        }
-        Consistency::Refused(n) => {
-            refused(rt, n)?;
-        }
+        Consistency::Inconsistent(c) => inconsistent(rt, c),
+        Consistency::Refused(n) => refused(rt, n),
     }
 }
 
 fn test(rt: &impl Print, s: Spec) -> io::Result<()> {
     text(rt, "  test")?;
-    let found = feasibility::test(s);
-    match found {
+    match feasibility::test(s) {
         Tested::Passed { plan: p, supply } => {
             numbers_of(rt, p)?;
             number(rt, supply as u64)?;
-            end(rt)?;
+            end(rt)
         }
-        Tested::Inconsistent(c) => {
-            inconsistent(rt, c)?;
-        }
-        Tested::Refused(n) => {
-            refused(rt, n)?;
-        }
+        Tested::Inconsistent(c) => inconsistent(rt, c),
+        Tested::Refused(n) => refused(rt, n),
     }
 }
 
 fn even_plan(rt: &impl Print, s: Spec) -> io::Result<()> {
     text(rt, "  even plan")?;
-    let found = even::even_plan(s);
-    match found {
+    match even::even_plan(s) {
         EvenPlan::Found(p) => {
             numbers_of(rt, p)?;
             end(rt)?;
-            reports(rt, p)?;
+            reports(rt, p)
         }
-        EvenPlan::Refused(n) => {
-            refused(rt, n)?;
-        }
+        EvenPlan::Refused(n) => refused(rt, n),
     }
 }
 
 fn report_number(rt: &impl Print, found: Found) -> io::Result<()> {
     match found {
-        Found::Number(i) => {
-            number(rt, i as u64)?;
-        }
-        Found::Refused(n) => {
-            number(rt, n as u64)?;
-        }
+        Found::Number(i) => number(rt, i as u64),
+        Found::Refused(n) => number(rt, n as u64),
     }
 }
 
@@ -194,7 +172,7 @@ fn minute(rt: &impl Print, p: Plan, m: u32) -> io::Result<()> {
     number(rt, m as u64)?;
     report_number(rt, moments::last_report(p, m))?;
     report_number(rt, moments::nearest_report(p, m))?;
-    end(rt)?;
+    end(rt)
 }
 
 // Two minutes, and the reports and records between them.
@@ -202,8 +180,7 @@ fn between(rt: &impl Print, p: Plan, a: u32, b: u32) -> io::Result<()> {
     text(rt, "  between")?;
     number(rt, a as u64)?;
     number(rt, b as u64)?;
-    let found = moments::between(p, a, b);
-    match found {
+    match moments::between(p, a, b) {
         Contents::Held { reports, records } => {
             number(rt, reports as u64)?;
             number(rt, records)?;
@@ -212,7 +189,7 @@ fn between(rt: &impl Print, p: Plan, a: u32, b: u32) -> io::Result<()> {
             number(rt, n as u64)?;
         }
     }
-    end(rt)?;
+    end(rt)
 }
 
 // Tenths of a cent and whole cents.
@@ -221,11 +198,9 @@ fn bill(rt: &impl Print, due: Bill) -> io::Result<()> {
         Bill::Due { tenths, cents } => {
             number(rt, tenths)?;
             number(rt, cents)?;
-            end(rt)?;
+            end(rt)
         }
-        Bill::Refused(n) => {
-            refused(rt, n)?;
-        }
+        Bill::Refused(n) => refused(rt, n),
     }
 }
 
@@ -233,20 +208,20 @@ fn bill(rt: &impl Print, due: Bill) -> io::Result<()> {
 fn plan_cost(rt: &impl Print, p: Plan, n: u32) -> io::Result<()> {
     text(rt, "  cost of")?;
     number(rt, n as u64)?;
-    bill(rt, cost::plan_cost(p, n))?;
+    bill(rt, cost::plan_cost(p, n))
 }
 
 fn cycle_cost(rt: &impl Print, s: Spec, words: &[u16], n: u32) -> io::Result<()> {
     text(rt, "  cycle cost of")?;
     number(rt, n as u64)?;
-    bill(rt, cost::cycle_cost(s, words, n))?;
+    bill(rt, cost::cycle_cost(s, words, n))
 }
 
 // The number of a cycle: gap, size, gap, size, ..
 fn cycle(rt: &impl Print, s: Spec, words: &[u16]) -> io::Result<()> {
     text(rt, "  cycle")?;
     number(rt, cycle::check(s, words) as u64)?;
-    end(rt)?;
+    end(rt)
 }
 
 // That of a cycle of one pair, where reports may be so many minutes late.
@@ -255,7 +230,7 @@ fn late_cycle(rt: &impl Print, s: Spec, gap: u16, size: u16, lateness: u32) -> i
     number(rt, lateness as u64)?;
     text(rt, " cycle")?;
     number(rt, cycle::check_late(s, &[gap, size], lateness) as u64)?;
-    end(rt)?;
+    end(rt)
 }
 
 fn sample_a(rt: &impl Print) -> io::Result<()> {
@@ -275,36 +250,31 @@ fn sample_a(rt: &impl Print) -> io::Result<()> {
     minute(rt, p, 27)?;
     minute(rt, p, 157)?;
     between(rt, p, 52, 158)?;
-    plan_cost(rt, p, 4)?;
+    plan_cost(rt, p, 4)
 }
 
 fn sample_a_with_28(rt: &impl Print) -> io::Result<()> {
     text(rt, "A with B = 28\n")?;
     let less = sample(3, 10, 45, 55, 28, 220, 17, 158);
     test(rt, less)?;
-    even_plan(rt, less)?;
+    even_plan(rt, less)
 }
 
 fn sample_b(rt: &impl Print) -> io::Result<()> {
     text(rt, "B\n")?;
     test(rt, sample(2, 3, 5, 5, 16, 26, 10, 20))?;
     text(rt, "B with B = 14\n")?;
-    even_plan(rt, sample(2, 3, 5, 5, 14, 26, 10, 20))?;
+    even_plan(rt, sample(2, 3, 5, 5, 14, 26, 10, 20))
 }
 
 // One offer: its number and the budget left. The meter after it is handed back.
 fn offer(rt: &impl Print, m: Meter, minute: u32, size: u32) -> io::Result<Meter> {
     let s = meter::step(m, minute, size);
-    let answer = s.answer;
-    number(rt, answer.number as u64)?;
-    let left = answer.left;
-    match left {
-        Left::Untold => {}
-        Left::Records(n) => {
-            number(rt, n as u64)?;
-        }
+    number(rt, s.answer.number as u64)?;
+    if let Left::Records(n) = s.answer.left {
+        number(rt, n as u64)?;
     }
-    s.meter
+    Ok(s.meter)
 }
 
 // Offers to a meter of B with 15: one that is refused far ahead drops nothing.
@@ -322,7 +292,7 @@ fn offers(rt: &impl Print, s: Spec) -> io::Result<()> {
     let m = offer(rt, m, 28, 1)?;
     let m = offer(rt, m, 28, 3)?;
     offer(rt, m, 29, 3)?;
-    end(rt)?;
+    end(rt)
 }
 
 // What the even plan of B with 15 costs: of ten reports half a cent goes up.
@@ -330,7 +300,7 @@ fn bills(rt: &impl Print, p: Plan) -> io::Result<()> {
     plan_cost(rt, p, 0)?;
     plan_cost(rt, p, 4)?;
     plan_cost(rt, p, 5)?;
-    plan_cost(rt, p, 10)?;
+    plan_cost(rt, p, 10)
 }
 
 // B with 15, from its file, the cycles of G, and offers to a meter.
@@ -339,8 +309,7 @@ fn sample_g(rt: &impl Print) -> io::Result<()> {
     let file = [15u8, 0, 2, 0, 3, 0, 5, 0, 5, 0, 15, 0, 26, 0, 10, 0, 20];
     let read = spec::read_spec(&file);
     let SpecRead::Accepted(s) = read else {
-        refused(rt, spec::read_number(read))?;
-        return;
+        return refused(rt, spec::read_number(read));
     };
     test(rt, s)?;
     even_plan(rt, s)?;
@@ -359,7 +328,7 @@ fn sample_g(rt: &impl Print) -> io::Result<()> {
     cycle(rt, s, &[5, 3, 5, 3, 5, 2, 5, 2])?;
     cycle_cost(rt, s, &[5, 3, 5, 3, 5, 2, 5, 2], 0)?;
     cycle(rt, s, &[5, 2, 5, 2, 5, 2, 5, 3])?;
-    offers(rt, s)?;
+    offers(rt, s)
 }
 
 fn samples_c_and_d(rt: &impl Print) -> io::Result<()> {
@@ -371,7 +340,7 @@ fn samples_c_and_d(rt: &impl Print) -> io::Result<()> {
     text(rt, "D\n")?;
     let d = sample(3, 5, 35, 46, 10, 79, 17, 158);
     test(rt, d)?;
-    even_plan(rt, d)?;
+    even_plan(rt, d)
 }
 
 fn samples_e_and_f(rt: &impl Print) -> io::Result<()> {
@@ -384,7 +353,7 @@ fn samples_e_and_f(rt: &impl Print) -> io::Result<()> {
     text(rt, "F with B = 15\n")?;
     let kept = sample(5, 5, 4, 4, 15, 10, 5, 20);
     consistency(rt, kept)?;
-    test(rt, kept)?;
+    test(rt, kept)
 }
 
 // A van of two shifts: gaps 5 to 15, or those of the second range.
@@ -402,7 +371,7 @@ fn two_shifts(rt: &impl Print) -> io::Result<()> {
     cycle(rt, s, &[15, 5, 15, 5, 5, 4, 90, 8, 60, 8])?;
     cycle(rt, s, &[15, 8, 30, 4, 90, 8])?;
     late_cycle(rt, s, 15, 4, 1)?;
-    late_cycle(rt, s, 40, 4, 25)?;
+    late_cycle(rt, s, 40, 4, 25)
 }
 
 // Ranges that touch are two, and a gap that was between them is allowed; ranges that overlap are refused.
@@ -415,7 +384,7 @@ fn ranges_that_touch(rt: &impl Print) -> io::Result<()> {
     let overlapping = shifts(15, 90);
     consistency(rt, overlapping)?;
     test(rt, overlapping)?;
-    even_plan(rt, overlapping)?;
+    even_plan(rt, overlapping)
 }
 
 // Reports that arrive late: a cycle that is passed, each number that one is refused with, and P minutes of no more than J.
@@ -428,7 +397,7 @@ fn late_reports(rt: &impl Print) -> io::Result<()> {
     late_cycle(rt, s, 4, 3, 2)?;
     late_cycle(rt, s, 3, 2, 1)?;
     late_cycle(rt, s, 4, 1, 1)?;
-    late_cycle(rt, sample(1, 9, 1, 9, 9, 1, 1, 3), 4, 9, 3)?;
+    late_cycle(rt, sample(1, 9, 1, 9, 9, 1, 1, 3), 4, 9, 3)
 }
 
 fn main(rt: HostRuntime) -> io::Result<()> {
@@ -440,5 +409,5 @@ fn main(rt: HostRuntime) -> io::Result<()> {
     samples_e_and_f(&rt)?;
     two_shifts(&rt)?;
     ranges_that_touch(&rt)?;
-    late_reports(&rt)?;
+    late_reports(&rt)
 }
