@@ -1,7 +1,7 @@
 -- Document 01, "Samples": what `evenplan` prints. "First line s, k, δ; then for each report of one period its number, minute, size. A
 -- refusal prints only the line `refused 10`, with its own number (1 to 4 or 10) in that place." 24 too (document 02, Req 06).
--- Each line that is handed to `write_line` is one of these. That each is written, in order, is tested and not proved: no contract can say
--- what the system writes.
+-- Each line that is handed to `write_line` is one of these, and a writer that says what it holds has them all, in order. That the system's
+-- output does is tested and not proved: no contract can say what the system writes.
 use Rattle.std.specs.Prelude.{ℕ, zero, suc, ◌+◌, ◌/◌, ◌%◌, ◌≤◌, ◌≡◌, true, false, cond, List, [], ◌∷◌, ◌++◌, ltb, length, take}
 use Rattle.plan.specs.declared.Plan.{Plan}
 use Rattle.plan.specs.declared.Reported.{Reported}
@@ -59,6 +59,20 @@ line_of (Found p) zero = plan_line p
 line_of (Found p) (suc i) = cond (ltb i p.count) (report_line i (report_of p i)) []
 line_of (Refused n) zero = refusal_line n
 line_of (Refused n) (suc i) = []
+
+-- the first n lines of an answer, one after another
+abbrev pub lines_of : EvenPlan → ℕ → List ℕ
+lines_of answer zero = []
+lines_of answer (suc n) = lines_of answer n ++ line_of answer n
+
+-- "First line s, k, δ; then for each report of one period" another; "a refusal prints only the line"
+abbrev pub line_count : EvenPlan → ℕ
+line_count (Found p) = 1 + p.count
+line_count (Refused n) = 1
+
+-- all that is printed
+abbrev pub listing_of : EvenPlan → List ℕ
+listing_of answer = lines_of answer (line_count answer)
 
 -- the text of a line, in the first of its 80 places
 abbrev pub text_of : Line → List ℕ

@@ -1,15 +1,20 @@
 // Program `evenplan`: reads a specification file from standard input and prints its even plan, or the number of the refusal
 // (document 01, "Samples"). Reading a specification, the plan and its reports are the libraries' work; here are the lines of text, and
 // what is read and written.
-ghost use Rattle.std.specs.Prelude.{ℕ, ◌+◌, ◌≤◌, ◌≡◌, List, [], ◌∷◌, length, take};
+#![tactic(auto)]
+
+ghost use Rattle.std.specs.Prelude.{ℕ, ◌+◌, ◌≤◌, ◌≡◌, List, [], ◌∷◌, length, take, IfOk, IfSome, OnOk};
+ghost use Rattle.std.specs.Io.KnownBytes.{Appends, IsAtEnd};
 ghost use Rattle.plan.specs.Reports.{report_of};
 ghost use Rattle.even.specs.declared.EvenPlan.TheVariants.{Found};
 ghost use Rattle.even.specs.Even.{even_of};
-ghost use Rattle.evenplan.specs.Text.{decimal, plan_text, report_text, refusal_line, plan_line, report_line, line_of, Room, Grown, Holds};
+ghost use Rattle.evenplan.specs.Text.{decimal, plan_text, report_text, refusal_line, plan_line, report_line, line_of, listing_of, Room, Grown, Holds};
 
 use even::EvenPlan;
-use libc::{STDIN_FILENO, STDOUT_FILENO};
 use plan::{Plan, Reported};
+use std::alloc::Global;
+use std::io;
+use std::io::{Read, Write};
 
 // A line of text as it grows. No line has more than 80 bytes, though each of its numbers had 20 digits.
 #[derive(Clone, Copy)]
@@ -43,10 +48,8 @@ impl Line {
         ensures { Grown self t.now result }
     {
         let mut line = self;
-        let mut i = 0;
-        while i < t.len() {
-            line = line.byte(t[i]);
-            i += 1;
+        for b in t {
+            line = line.byte(*b);
         }
         line
     }
@@ -55,9 +58,11 @@ impl Line {
         requires { Room self 20 }
         ensures { (Grown self (decimal n) result) × (result.len ≤ self.len + 20) }
     {
-        let mut digits = [0u8; 20];
-        let k = io::decimal(n, &mut digits);
-        self.text(&digits[..k])
+        if n < 10 {
+            self.byte(b'0' + n as u8)
+        } else {
+            self.number(n / 10).byte(b'0' + (n % 10) as u8)
+        }
     }
 }
 
@@ -104,48 +109,48 @@ fn plan_line(p: Plan) -> Line
 fn report_line(p: Plan, i: u32) -> Line
     ensures { Holds result (report_line i (report_of p i)) }
 {
-    let found = plan::report(p, i);
-    match found {
+    match plan::report(p, i) {
         Reported::At { minute, size } => report_text(i, minute, size),
         Reported::Refused(n) => refusal_line(n),
     }
 }
 
-// Writes line i of the answer to the file that begins with `front`, and answers whether it was written. Nothing else here writes: a
-// text that is no such line cannot be handed over.
-fn write_line(front: &[u8], i: u32, line: Line) -> bool
+// Writes line i of the answer to the file that begins with `front`. Nothing else here writes: a text that is no such line cannot be
+// handed over.
+fn write_line<W: Write>(out: &mut W, front: &[u8], i: u32, line: Line) -> io::Result<()>
     requires { Holds line (line_of (even_of front.now) i) }
+    ensures { OnOk result (Appends (W.contents out.old) (W.contents out.new) (line_of (even_of front.now) i)) }
 {
-    let n = line.len;
-    let bytes = line.bytes;
-    io::write_all(STDOUT_FILENO, &bytes[..n])
+    out.write_all(&line.bytes[..line.len])
 }
 
-// The plan's line, then those of the reports of one period, as long as they can be written.
-fn write_plan(front: &[u8], p: Plan)
+// The plan's line, then those of the reports of one period.
+fn write_plan<W: Write>(out: &mut W, front: &[u8], p: Plan) -> io::Result<()>
     requires { even_of front.now ≡ Found p }
+    ensures { OnOk result (Appends (W.contents out.old) (W.contents out.new) (listing_of (even_of front.now))) }
 {
-    let k = p.count;
-    let mut i = 0;
-    if write_line(front, 0, plan_line(p)) {
-        while i < k && write_line(front, i + 1, report_line(p, i)) {
-            i += 1;
-        }
+    write_line(out, front, 0, plan_line(p))?;
+    for i in 0..p.count {
+        write_line(out, front, i + 1, report_line(p, i))?;
     }
+    Ok(())
 }
 
-// Reads some of what is left of the input, and answers whether there may be more.
-fn skip_some() -> bool {
-    let mut rest = io::buffer();
-    libc::read(STDIN_FILENO, &mut rest) > 0
+// The first 26 bytes of the input, or all of it where it has fewer.
+fn read_front<R: Read>(alloc: Global, input: &mut R) -> io::Result<Vec<u8>>
+    ensures { IfOk result (λ front. IfSome (R.remaining input.old) (λ bytes. front.items ≡ take 26 bytes)) }
+{
+    let mut front = Vec::new(alloc);
+    Read::take(&mut *input, 26).read_to_end(&mut front)?;
+    Ok(front)
 }
 
-// Reads the input to its end. The turns are counted down from a number that no run uses up.
-fn skip_rest() {
-    let mut turns = u64::MAX;
-    while turns > 0 && skip_some() {
-        turns -= 1;
-    }
+// Reads the input to its end.
+fn skip_rest<R: Read>(input: &mut R) -> io::Result<()>
+    ensures { OnOk result (IsAtEnd (R.remaining input.new)) }
+{
+    io::copy(input, &mut io::sink())?;
+    Ok(())
 }
 
 // The answer to every file of which these are the first 26 bytes. The longest specification file has 25, so 26 show that a file is
@@ -157,15 +162,21 @@ fn answer_to(front: &[u8]) -> EvenPlan
     even::even_of(front)
 }
 
-fn main() {
-    let mut front = [0u8; 26];
-    let n = io::read_full(STDIN_FILENO, &mut front);
-    let answer = answer_to(&front[..n]);
-    skip_rest();
-    match answer {
-        EvenPlan::Found(p) => write_plan(&front[..n], p),
-        EvenPlan::Refused(number) => {
-            write_line(&front[..n], 0, refusal_line(number));
-        }
+// Reads a file to its end, and writes the answer to it.
+fn answer<R: Read, W: Write>(alloc: Global, input: &mut R, out: &mut W) -> io::Result<()>
+    ensures whole { OnOk result (IsAtEnd (R.remaining input.new)) }
+    ensures listing { OnOk result (IfSome (R.remaining input.old)
+        (λ file. Appends (W.contents out.old) (W.contents out.new) (listing_of (even_of file)))) }
+{
+    let front = read_front(alloc, input)?;
+    let found = answer_to(&front);
+    skip_rest(input)?;
+    match found {
+        EvenPlan::Found(p) => write_plan(out, &front, p),
+        EvenPlan::Refused(number) => write_line(out, &front, 0, refusal_line(number)),
     }
+}
+
+fn main(rt: HostRuntime) -> io::Result<()> {
+    answer(rt.alloc(), &mut rt.stdin(), &mut rt.stdout())
 }
