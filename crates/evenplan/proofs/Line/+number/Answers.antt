@@ -1,6 +1,5 @@
 -- The digits of a tenth of the number and the last one are the number in decimal, and fit.
 use native.Mathlib.Omega.{arith}
-use lib.ListN.{length}
 use Rattle.evenplan.proofs.Decimal.{decimal_few, decimal_more, length_tenth}
 use Rattle.evenplan.proofs.Lines.{grown_more}
 use Rattle.evenplan.proofs.Line.+number.Goals as goal
