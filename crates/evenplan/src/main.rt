@@ -12,7 +12,6 @@ ghost use Rattle.evenplan.specs.Text.{decimal, plan_text, report_text, refusal_l
 
 use even::EvenPlan;
 use plan::{Plan, Reported};
-use std::alloc::Global;
 use std::io;
 use std::io::{Read, Write};
 
@@ -136,13 +135,20 @@ fn write_plan<W: Write>(out: &mut W, front: &[u8], p: Plan) -> io::Result<()>
     Ok(())
 }
 
-// The first 26 bytes of the input, or all of it where it has fewer.
-fn read_front<R: Read>(alloc: Global, input: &mut R) -> io::Result<Vec<u8>>
-    ensures { IfOk result (λ front. IfSome (R.remaining input.old) (λ bytes. front.items ≡ take 26 bytes)) }
+// Reads the front of the input, as many bytes as there are places for, or all of it where it has fewer. Tells how many they are.
+fn read_front<R: Read>(input: &mut R, places: &mut [u8]) -> io::Result<usize>
+    ensures most { IfOk result (λ n. n ≤ length places.new) }
+    ensures bytes { IfOk result (λ n. IfSome (R.remaining input.old) (λ bytes. take n places.new ≡ take (length places.old) bytes)) }
 {
-    let mut front = Vec::new(alloc);
-    Read::take(&mut *input, 26).read_to_end(&mut front)?;
-    Ok(front)
+    let mut read: usize = 0;
+    while read < places.len() {
+        let n = input.read(&mut places[read..])?;
+        if n == 0 {
+            break;
+        }
+        read += n;
+    }
+    Ok(read)
 }
 
 // Reads the input to its end.
@@ -163,20 +169,22 @@ fn answer_to(front: &[u8]) -> EvenPlan
 }
 
 // Reads a file to its end, and writes the answer to it.
-fn answer<R: Read, W: Write>(alloc: Global, input: &mut R, out: &mut W) -> io::Result<()>
+fn answer<R: Read, W: Write>(input: &mut R, out: &mut W) -> io::Result<()>
     ensures whole { OnOk result (IsAtEnd (R.remaining input.new)) }
     ensures listing { OnOk result (IfSome (R.remaining input.old)
         (λ file. Appends (W.contents out.old) (W.contents out.new) (listing_of (even_of file)))) }
 {
-    let front = read_front(alloc, input)?;
-    let found = answer_to(&front);
+    let mut bytes = [0u8; 26];
+    let n = read_front(input, &mut bytes)?;
+    let front = &bytes[..n];
+    let found = answer_to(front);
     skip_rest(input)?;
     match found {
-        EvenPlan::Found(p) => write_plan(out, &front, p),
-        EvenPlan::Refused(number) => write_line(out, &front, 0, refusal_line(number)),
+        EvenPlan::Found(p) => write_plan(out, front, p),
+        EvenPlan::Refused(number) => write_line(out, front, 0, refusal_line(number)),
     }
 }
 
 fn main(rt: HostRuntime) -> io::Result<()> {
-    answer(rt.alloc(), &mut rt.stdin(), &mut rt.stdout())
+    answer(&mut rt.stdin(), &mut rt.stdout())
 }
