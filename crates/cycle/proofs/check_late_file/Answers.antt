@@ -10,6 +10,4 @@ returns-in_default c = rw (← c.read_spec-read.ensures) (c.read_number.ensures 
 
 pub returns : goal.returns
 unfolding late_file_number
-returns c =
-    let read = c in
-    rw (← read.read_spec-read.ensures) (c.check_late.ensures ∙ read_accepted _ read.in-Accepted.is)
+returns c = rw (← c.read_spec-read.ensures) (c.check_late.ensures ∙ read_accepted _ c.in-Accepted.is)

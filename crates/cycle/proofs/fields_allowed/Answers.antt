@@ -13,12 +13,9 @@ use Rattle.cycle.proofs.fields_allowed.Goals as goal
 
 -- a turn has judged the field of pair j
 judged : (c : After-field_allowed) →
-    let start = c in
-    let k = start.args.field in
-    c.field_allowed.result ≡ field_allowed start.args.spec k (field k (pairs_of start.args.words.now) c.loop-j.j)
-judged c =
-    let start = c in
-    rw (flat_field start.args.words.now start.args.field c.loop-j.j start.requires.1 (omega arith)) c.field_allowed.ensures
+    let k = c.args.field in
+    c.field_allowed.result ≡ field_allowed c.args.spec k (field k (pairs_of c.args.words.now) c.loop-j.j)
+judged c = rw (flat_field c.args.words.now c.args.field c.loop-j.j c.requires.1 (omega arith)) c.field_allowed.ensures
 
 pub loop-j-init : goal.loop-j-init
 loop-j-init c = (search rules, λ i h. absurd (omega arith))

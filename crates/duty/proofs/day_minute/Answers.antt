@@ -12,27 +12,23 @@ pub overflow_sub-day : goal.overflow_sub-day
 overflow_sub-day c = (ordered _ c.requires.0).first
 
 pub overflow_add-result-else-n-first : goal.overflow_add-result-else-n-first
-overflow_add-result-else-n-first c =
-    let start = c in
-    record { fits = omega (arith, c.wide-else-n-first.ensures.1, start.requires.1, day_most start.args.day start.requires.0) }
+overflow_add-result-else-n-first c = record { fits = omega (arith, c.wide-else-n-first.ensures.1, c.requires.1, day_most c.args.day c.requires.0) }
 
 pub returns-then-n-first : goal.returns-then-n-first
 unfolding day_minute
 returns-then-n-first c =
-    let start = c in
-    let day = start.args.day in
-    let n = start.args.n in
+    let day = c.args.day in
+    let n = c.args.n in
     let first = get_or day 1 0 - get_or day 0 0 in
     let same : c.wide.result + n ≡ day_minute day n = rw (lt-ltb n first (omega (arith, c.wide-first.ensures.0)), c.wide.ensures.0) in
-    (same, rw same (day_minute_lem day start.requires.0 n start.requires.1).inside)
+    (same, rw same (day_minute_lem day c.requires.0 n c.requires.1).inside)
 
 pub returns-else-n-first : goal.returns-else-n-first
 unfolding day_minute
 returns-else-n-first c =
-    let start = c in
-    let day = start.args.day in
-    let n = start.args.n in
+    let day = c.args.day in
+    let n = c.args.n in
     let first = get_or day 1 0 - get_or day 0 0 in
     let same : c.wide-else-n-first.result + (n - c.wide-first.result) ≡ day_minute day n =
     rw (le-ltb n first (omega (arith, c.wide-first.ensures.0)), c.wide-else-n-first.ensures.0, c.wide-first.ensures.0) in
-    (same, rw same (day_minute_lem day start.requires.0 n start.requires.1).inside)
+    (same, rw same (day_minute_lem day c.requires.0 n c.requires.1).inside)

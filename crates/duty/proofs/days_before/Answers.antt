@@ -17,11 +17,10 @@ day_minutes-total-requires c = day_right_lem _ c.requires.0 c.loop-k.k (omega ar
 
 pub loop-k-preserved : goal.loop-k-preserved
 loop-k-preserved c =
-    let start = c in
-    let table = start.args.table in
+    let table = c.args.table in
     let k = c.loop-k.k in
     let inside : k < 7 = omega arith in
-    let more = before_next table k inside (day_right_lem table start.requires.0 k inside) in
+    let more = before_next table k inside (day_right_lem table c.requires.0 k inside) in
     (search rules, omega arith, omega (arith, before_most table (1440 * (k + 1))))
 
 pub returns : goal.returns

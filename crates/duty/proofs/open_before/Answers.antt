@@ -7,18 +7,16 @@ use Rattle.duty.proofs.open_before.Goals as goal
 
 pub overflow_mul-result : goal.overflow_mul-result
 overflow_mul-result c =
-    let start = c in
-    let table = start.args.table in
-    let parts = before_parts table start.requires.0 start.args.week start.args.m start.requires.1 in
-    record { fits = omega (arith, before_most table start.args.m, start.requires.2) }
+    let table = c.args.table in
+    let parts = before_parts table c.requires.0 c.args.week c.args.m c.requires.1 in
+    record { fits = omega (arith, before_most table c.args.m, c.requires.2) }
 
 pub day_before-requires : goal.day_before-requires
 day_before-requires c = (day_right_lem _ c.requires.0 _ (omega arith), omega arith)
 
 pub returns : goal.returns
 returns c =
-    let start = c in
-    rw (c.days_before.ensures, c.day_before.ensures) (sym (before_parts start.args.table start.requires.0 start.args.week start.args.m start.requires.1))
+    rw (c.days_before.ensures, c.day_before.ensures) (sym (before_parts c.args.table c.requires.0 c.args.week c.args.m c.requires.1))
 
 -- the whole sum, and with it each part
 pub overflow_add-result-2 : goal.overflow_add-result-2

@@ -16,30 +16,26 @@ pub day_minutes-here-requires : goal.day_minutes-here-requires
 day_minutes-here-requires c = day_right_lem _ c.requires.0 c.loop-k.k (omega arith)
 
 pub day_minute-requires : goal.day_minute-requires
-day_minute-requires c =
-    (day_right_lem _ c.requires.0 c.loop-k.k (omega arith), omega (arith, c.day_minutes-here.ensures.0))
+day_minute-requires c = (day_right_lem _ c.requires.0 c.loop-k.k (omega arith), omega (arith, c.day_minutes-here.ensures.0))
 
 pub returns-then-left-here : goal.returns-then-left-here
 returns-then-left-here c =
-    let start = c in
-    let table = start.args.table in
+    let table = c.args.table in
     let k = c.loop-k.k in
     let left = c.loop-k.left in
     let inside : k < 7 = omega arith in
-    let e : left + open_before table (1440 * k) ≡ start.args.n = c.loop-k.invariant.1 in
-    rw (← e, c.day_minute.ensures.0) (week_minute table k inside (day_right_lem table start.requires.0 k inside) left (omega arith))
+    let e : left + open_before table (1440 * k) ≡ c.args.n = c.loop-k.invariant.1 in
+    rw (← e, c.day_minute.ensures.0) (week_minute table k inside (day_right_lem table c.requires.0 k inside) left (omega arith))
 
 pub loop-k-preserved : goal.loop-k-preserved
 loop-k-preserved c =
-    let start = c in
-    let table = start.args.table in
+    let table = c.args.table in
     let k = c.loop-k.k in
     let inside : k < 7 = omega arith in
-    (search rules, omega (arith, before_next table k inside (day_right_lem table start.requires.0 k inside)))
+    (search rules, omega (arith, before_next table k inside (day_right_lem table c.requires.0 k inside)))
 
 pub returns : goal.returns
 returns c =
-    let start = c in
     let e : c.loop-k.k ≡ 7 = omega arith in
     let n = rw e at c.loop-k.invariant.1 in
-    absurd (let q = start.requires.1 in omega arith)
+    absurd (let q = c.requires.1 in omega arith)

@@ -17,5 +17,4 @@ pub gap_of-requires : goal.gap_of-requires
 gap_of-requires c = search ((facts _ c.requires).second, first_range _ c.requires)
 
 pub returns : goal.returns
-returns c =
-    c.gap_of.ensures ∙ sym (first_then _ c.requires (sym c.gap_of-s.ensures ∙ c.if-s-ne0.false))
+returns c = c.gap_of.ensures ∙ sym (first_then _ c.requires (sym c.gap_of-s.ensures ∙ c.if-s-ne0.false))

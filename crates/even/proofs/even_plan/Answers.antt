@@ -8,12 +8,9 @@ pub returns-then-n-ne0 : goal.returns-then-n-ne0
 returns-then-n-ne0 c = plan_not_begun _ c.spec_number-n.ensures c.if-n-ne0.true
 
 pub returns-then-s-eq0 : goal.returns-then-s-eq0
-returns-then-s-eq0 c =
-    let begun = c in
-    plan_none _ begun.spec_number-n.ensures begun.if-n-ne0.false c.even_gap-s.ensures c.if-s-eq0.true
+returns-then-s-eq0 c = plan_none _ c.spec_number-n.ensures c.if-n-ne0.false c.even_gap-s.ensures c.if-s-eq0.true
 
 pub returns : goal.returns
 returns c =
-    let begun = c in
     ap Found c.plan_at.ensures
-    ∙ plan_some _ begun.spec_number-n.ensures begun.if-n-ne0.false c.even_gap-s.ensures c.if-s-eq0.false
+    ∙ plan_some _ c.spec_number-n.ensures c.if-n-ne0.false c.even_gap-s.ensures c.if-s-eq0.false

@@ -17,18 +17,13 @@ pub nonzero_div-result : goal.nonzero_div-result
 nonzero_div-result c = let n = numbers _ c.requires in omega arith
 
 pub overflow_sub-result : goal.overflow_sub-result
-overflow_sub-result c =
-    let start = c in
-    rw c.held_before-front.ensures (front_fits _ start.requires _)
+overflow_sub-result c = rw c.held_before-front.ensures (front_fits _ c.requires _)
 
 pub overflow_cast-result-3 : goal.overflow_cast-result-3
 overflow_cast-result-3 c =
-    let start = c in
-    let most = available_most _ start.requires start.args.p in
-    let closed = available_closed _ start.requires start.args.p in
+    let most = available_most _ c.requires c.args.p in
+    let closed = available_closed _ c.requires c.args.p in
     record { fits = omega arith }
 
 pub returns : goal.returns
-returns c =
-    let start = c in
-    rw c.held_before-front.ensures (sym (available_closed _ start.requires _))
+returns c = rw c.held_before-front.ensures (sym (available_closed _ c.requires _))

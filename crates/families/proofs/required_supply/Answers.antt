@@ -7,8 +7,7 @@ use Rattle.families.proofs.required_supply.Goals as goal
 pub overflow_cast-result : goal.overflow_cast-result
 unfolding required
 overflow_cast-result c =
-    let start = c in
-    let most = required_most _ start.requires start.args.r in
+    let most = required_most _ c.requires c.args.r in
     record { fits = omega arith }
 
 pub returns : goal.returns

@@ -4,12 +4,8 @@ use Rattle.families.proofs.schedule_for.Goals as goal
 
 pub returns-in_default : goal.returns-in_default
 unfolding schedule_for
-returns-in_default c =
-    let found = c in
-    rw (c.rates_number.ensures, ← found.started-start.ensures, found.in_default.is)
+returns-in_default c = rw (c.rates_number.ensures, ← c.started-start.ensures, c.in_default.is)
 
 pub returns : goal.returns
 unfolding schedule_for
-returns c =
-    let there = c in
-    rw (c.scheduled_with.ensures, ← there.started-start.ensures, there.in-Both.is)
+returns c = rw (c.scheduled_with.ensures, ← c.started-start.ensures, c.in-Both.is)

@@ -16,33 +16,29 @@ first_count-k-requires c = c.requires.0
 
 pub schedule_with-best-requires : goal.schedule_with-best-requires
 schedule_with-best-requires c =
-    let start = c in
-    (start.requires.0, rw c.first_count-k.ensures ((exists_iff _ _ (known _ _ start.requires.0) _ _).1 (omega arith, start.requires.1)))
+    (c.requires.0, rw c.first_count-k.ensures ((exists_iff _ _ (known _ _ c.requires.0) _ _).1 (omega arith, c.requires.1)))
 
 pub loop-k-init : goal.loop-k-init
 loop-k-init c =
-    let start = c in
     let first = c.first_count-k.ensures in
-    (rw (c.schedule_with-best.ensures, first) (sym (taken_first _ _ _)), omega arith, omega (arith, start.requires.1))
+    (rw (c.schedule_with-best.ensures, first) (sym (taken_first _ _ _)), omega arith, omega (arith, c.requires.1))
 
 pub overflow_add-k : goal.overflow_add-k
 overflow_add-k c = record { fits = omega arith }
 
 pub schedule_with-requires : goal.schedule_with-requires
 schedule_with-requires c =
-    let start = c in
     let last = c.last_count-last.ensures in
     let inv = c.loop-k.invariant in
-    (start.requires.0, (exists_iff _ _ (known _ _ start.requires.0) _ _).1 (omega (arith, inv.1), omega (arith, c.loop-k-test.true)))
+    (c.requires.0, (exists_iff _ _ (known _ _ c.requires.0) _ _).1 (omega (arith, inv.1), omega (arith, c.loop-k-test.true)))
 
 pub loop-k-smaller : goal.loop-k-smaller
 loop-k-smaller c = omega arith
 
 pub loop-k-preserved : goal.loop-k-preserved
 loop-k-preserved c =
-    let loop = c in
-    let last = loop.last_count-last.ensures in
-    let inv = loop.loop-k.invariant in
+    let last = c.last_count-last.ensures in
+    let inv = c.loop-k.invariant in
     (rw (c.better_of-best.ensures, c.schedule_with.ensures, inv.0) (sym (taken_next _ _ _ _ inv.1)), omega (arith, inv.1), omega (arith, c.loop-k-test.true))
 
 pub returns : goal.returns

@@ -8,15 +8,13 @@ use Rattle.feasibility.proofs.first_count.Goals as goal
 
 pub overflow_cast-result : goal.overflow_cast-result
 overflow_cast-result c =
-    let start = c in
-    let t = facts _ (known _ _ start.requires).accepted in
-    record { fits = omega (arith, ceil_le_self start.args.s.dmax (omega arith) start.args.q.l) }
+    let t = facts _ (known _ _ c.requires).accepted in
+    record { fits = omega (arith, ceil_le_self c.args.s.dmax (omega arith) c.args.q.l) }
 
 pub overflow_cast-result-in-MaximumSupply : goal.overflow_cast-result-in-MaximumSupply
 overflow_cast-result-in-MaximumSupply c =
-    let start = c in
-    let t = facts _ (known _ _ start.requires).accepted in
-    record { fits = omega (arith, ceil_le_self start.args.s.smax (omega arith) start.args.q.r) }
+    let t = facts _ (known _ _ c.requires).accepted in
+    record { fits = omega (arith, ceil_le_self c.args.s.smax (omega arith) c.args.q.r) }
 
 pub returns-in-MinimumDemand : goal.returns-in-MinimumDemand
 unfolding first_count

@@ -7,6 +7,5 @@ use Rattle.feasibility.proofs.schedule_with.Goals as goal
 pub returns : goal.returns
 unfolding schedule_with
 returns c =
-    let start = c in
-    let ok = plan_proper _ _ (known _ _ start.requires.0) _ _ start.requires.1 in
+    let ok = plan_proper _ _ (known _ _ c.requires.0) _ _ c.requires.1 in
     rw (c.figure_of-supply.ensures, c.plan_for-plan.ensures, figure_proper _ _ _ ok)

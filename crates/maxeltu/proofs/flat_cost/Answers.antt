@@ -11,14 +11,11 @@ use Rattle.maxeltu.proofs.flat_cost.Goals as goal
 pub returns-in_default : goal.returns-in_default
 unfolding cycle_cost_call
 returns-in_default c =
-    let start = c in
-    rw (← not_read c.read_spec-read.ensures (λ s. bill_answer (cycle_bill s (pairs_of start.args.words.now) start.args.reports)) c.in_default.is c.read_number.ensures)
+    rw (← not_read c.read_spec-read.ensures (λ s. bill_answer (cycle_bill s (pairs_of c.args.words.now) c.args.reports)) c.in_default.is c.read_number.ensures)
     (refl, after_refusal _ _ _ _, after_refusal _ _ _ _)
 
 pub returns : goal.returns
 unfolding cycle_cost_call
 returns c =
-    let read = c in
-    let start = read in
-    rw (← was_read read.read_spec-read.ensures (λ s. bill_answer (cycle_bill s (pairs_of start.args.words.now) start.args.reports)) read.in-Accepted.is, ← c.cycle_cost.ensures)
+    rw (← was_read c.read_spec-read.ensures (λ s. bill_answer (cycle_bill s (pairs_of c.args.words.now) c.args.reports)) c.in-Accepted.is, ← c.cycle_cost.ensures)
     c.bill_answer.ensures

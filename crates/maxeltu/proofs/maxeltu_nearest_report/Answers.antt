@@ -10,6 +10,4 @@ returns-in_default c = rw (← c.plan_named.ensures, c.in_default.is) (refl, aft
 
 pub returns : goal.returns
 unfolding nearest_call
-returns c =
-    let named = c in
-    rw (← named.plan_named.ensures, named.in-Plan.is, ← c.nearest_report.ensures) c.number_answer.ensures
+returns c = rw (← c.plan_named.ensures, c.in-Plan.is, ← c.nearest_report.ensures) c.number_answer.ensures

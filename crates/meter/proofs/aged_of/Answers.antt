@@ -14,20 +14,17 @@ loop-k-init c = (search rules, walk_starts _ _ _ _, sym (sum_none _), search rul
 pub returns-then-not-is_aged : goal.returns-then-not-is_aged
 unfolding ring_report
 returns-then-not-is_aged c =
-    let loop = c in
     let e = sym c.is_aged.ensures ∙ c.if-not-is_aged.true in
-    (walk_stops _ _ _ _ _ _ loop.loop-k.invariant.1 (search rules) (rw (← c.place-at.ensures.0) e), search rules, loop.loop-k.invariant.2)
+    (walk_stops _ _ _ _ _ _ c.loop-k.invariant.1 (search rules) (rw (← c.place-at.ensures.0) e), search rules, c.loop-k.invariant.2)
 
 pub loop-k-preserved : goal.loop-k-preserved
 unfolding ring_report
 loop-k-preserved c =
-    let judged = c in
-    let loop = judged in
-    let e = sym judged.is_aged.ensures ∙ c.if-not-is_aged.false in
-    let place = judged.place-at.ensures.0 in (
+    let e = sym c.is_aged.ensures ∙ c.if-not-is_aged.false in
+    let place = c.place-at.ensures.0 in (
       search rules,
-      walk_goes_on _ _ _ _ _ _ loop.loop-k.invariant.1 (search rules) (rw (← place) e),
-      rw (sum_more _ _, ← place) (omega (arith, loop.loop-k.invariant.2, c.wide-records.ensures.0)),
+      walk_goes_on _ _ _ _ _ _ c.loop-k.invariant.1 (search rules) (rw (← place) e),
+      rw (sum_more _ _, ← place) (omega (arith, c.loop-k.invariant.2, c.wide-records.ensures.0)),
       search rules,
     )
 

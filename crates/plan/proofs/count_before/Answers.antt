@@ -21,30 +21,25 @@ nonzero_rem-left c = let n = numbers _ c.requires in omega arith
 
 pub overflow_add-left : goal.overflow_add-left
 overflow_add-left c =
-    let start = c in
-    let n = numbers _ start.requires in
-    record { fits = omega (arith, mod-lt start.args.m n.period.0) }
+    let n = numbers _ c.requires in
+    record { fits = omega (arith, mod-lt c.args.m n.period.0) }
 
 pub nonzero_div-result : goal.nonzero_div-result
 nonzero_div-result c = let n = numbers _ c.requires in omega arith
 
 pub overflow_mul-result : goal.overflow_mul-result
-overflow_mul-result c =
-    let start = c in
-    record { fits = omega (arith, reports_closed start.args.p start.requires start.args.m, reports_few start.args.p start.requires start.args.m) }
+overflow_mul-result c = record { fits = omega (arith, reports_closed c.args.p c.requires c.args.m, reports_few c.args.p c.requires c.args.m) }
 
 pub overflow_add-result : goal.overflow_add-result
 unfolding within_before
 overflow_add-result c =
-    let start = c in
-    let closed = reports_closed _ start.requires start.args.m in
+    let closed = reports_closed _ c.requires c.args.m in
     rw (c.smaller.ensures, c.ceil_div-by_longer.ensures, c.ceil_div-by_shorter.ensures)
-    (record { fits = omega (arith, closed, reports_few start.args.p start.requires start.args.m) })
+    (record { fits = omega (arith, closed, reports_few c.args.p c.requires c.args.m) })
 
 pub returns : goal.returns
 unfolding within_before
 returns c =
-    let start = c in
-    let closed = reports_closed _ start.requires start.args.m in
+    let closed = reports_closed _ c.requires c.args.m in
     rw (c.smaller.ensures, c.ceil_div-by_longer.ensures, c.ceil_div-by_shorter.ensures)
-    (sym closed, omega (arith, closed, reports_few start.args.p start.requires start.args.m))
+    (sym closed, omega (arith, closed, reports_few c.args.p c.requires c.args.m))

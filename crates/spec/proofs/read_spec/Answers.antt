@@ -13,8 +13,7 @@ pub returns-then-not-m : goal.returns-then-not-m
 returns-then-not-m c = unmapped _ c.wide-m.ensures.0 c.if-not-m.true
 
 pub returns-then-bytes-file_length : goal.returns-then-bytes-file_length
-returns-then-bytes-file_length c =
-    cut _ c.wide-m.ensures.0 (omega arith) c.if-not-m.false (λ e. c.if-bytes-file_length.true (omega arith))
+returns-then-bytes-file_length c = cut _ c.wide-m.ensures.0 (omega arith) c.if-not-m.false (λ e. c.if-bytes-file_length.true (omega arith))
 
 pub returns : goal.returns
 returns c = c.accepted.ensures

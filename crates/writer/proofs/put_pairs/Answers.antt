@@ -34,5 +34,4 @@ pub shape_of-file : goal.shape_of-file
 shape_of-file c = c.loop-i.invariant.1
 
 pub returns : goal.returns
-returns c =
-    rw (left_none (before_of c.loop-i.c) (pairs_of c.args.words.now) c.loop-i.i (rw length_pairs_of (omega arith))) at c.loop-i.invariant.3
+returns c = rw (left_none (before_of c.loop-i.c) (pairs_of c.args.words.now) c.loop-i.i (rw length_pairs_of (omega arith))) at c.loop-i.invariant.3

@@ -11,24 +11,18 @@ pub loop-w-init : goal.loop-w-init
 loop-w-init c = (refl, c.requires.3)
 
 pub report_at-requires : goal.report_at-requires
-report_at-requires c =
-    let start = c in
-    (next_place start.args.words.now _ (omega arith) start.requires.2 c.loop-w.invariant.1 (omega arith), start.requires.0.few)
+report_at-requires c = (next_place c.args.words.now _ (omega arith) c.requires.2 c.loop-w.invariant.1 (omega arith), c.requires.0.few)
 
 pub with-w-requires : goal.with-w-requires
 with-w-requires c =
-    let start = c in
-    let p = next_place start.args.words.now _ (omega arith) start.requires.2 c.loop-w.invariant.1 (omega arith) in
+    let p = next_place c.args.words.now _ (omega arith) c.requires.2 c.loop-w.invariant.1 (omega arith) in
     (omega arith, omega arith, omega arith, omega arith, omega arith)
 
 pub loop-w-smaller : goal.loop-w-smaller
-loop-w-smaller c =
-    let start = c in
-    rw c.with-w.ensures (omega (arith, start.requires.0.later c.loop-w.w.past))
+loop-w-smaller c = rw c.with-w.ensures (omega (arith, c.requires.0.later c.loop-w.w.past))
 
 pub loop-w-preserved : goal.loop-w-preserved
-loop-w-preserved c =
-    rw c.with-w.ensures (c.loop-w.invariant.0, spans_with _ _ c.loop-w.invariant.1 c.report_at.ensures (omega arith))
+loop-w-preserved c = rw c.with-w.ensures (c.loop-w.invariant.0, spans_with _ _ c.loop-w.invariant.1 c.report_at.ensures (omega arith))
 
 pub returns : goal.returns
 returns c = (c.loop-w.invariant.0, search rules, c.loop-w.invariant.1)

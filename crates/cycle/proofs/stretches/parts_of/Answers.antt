@@ -23,14 +23,13 @@ nonzero_rem-result c = omega (arith, some_minutes _ c.requires.0)
 
 pub returns : goal.returns
 returns c =
-    let start = c in
-    let l = start.args.words.now in
-    let ok = start.requires.0 in
+    let l = c.args.words.now in
+    let ok = c.requires.0 in
     let r = c.round_of-round.ensures in
     let some : 0 < c.round_of-round.result.minutes = omega (arith, some_minutes l ok) in
     record {
-      adds = parts_add (pairs_of l) ok.later _ _ r.minutes r.records _ start.requires.1;
+      adds = parts_add (pairs_of l) ok.later _ _ r.minutes r.records _ c.requires.1;
       some = omega arith;
-      short = omega (arith, mod-lt (start.args.minutes - 1) some);
+      short = omega (arith, mod-lt (c.args.minutes - 1) some);
       rounds_fit = rounds_most _ _ _ (omega arith) (omega arith);
     }

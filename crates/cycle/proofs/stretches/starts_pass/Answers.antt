@@ -47,10 +47,7 @@ report_at-x-requires c = (omega arith, c.requires.0.few)
 
 pub overflow_add-parts : goal.overflow_add-parts
 overflow_add-parts c =
-    let filled = c in
-    let parts = filled in
-    let start = parts in
-    let p = past_fits start.args.words.now _ (omega arith) parts.parts_of-parts.ensures.short filled.filled-w.ensures.2 start.requires.0.few in
+    let p = past_fits c.args.words.now _ (omega arith) c.parts_of-parts.ensures.short c.filled-w.ensures.2 c.requires.0.few in
     record { fits = omega arith }
 
 pub returns-then-not-rule_passes : goal.returns-then-not-rule_passes
@@ -79,6 +76,4 @@ loop-w-preserved c =
 
 pub returns : goal.returns
 unfolding starts_pass
-returns c =
-    let loop = c in
-    all_pass _ _ loop.loop-w.w.first (omega (arith, length_pairs_of loop.args.words.now)) loop.loop-w.invariant.2
+returns c = all_pass _ _ c.loop-w.w.first (omega (arith, length_pairs_of c.args.words.now)) c.loop-w.invariant.2

@@ -11,24 +11,21 @@ returns-then-b-a c = backwards _ _ _ (sym c.is_proper.ensures ∙ c.if-not-is_pr
 
 pub overflow_sub-result : goal.overflow_sub-result
 overflow_sub-result c =
-    let both = c in
-    let ok = sym both.is_proper.ensures ∙ both.if-not-is_proper.false in
-    let a = both.front_of-before.ensures in
-    let b = both.front_of-until.ensures in
-    (fronts_rise _ ok _ _ both.if-b-a.false a.0 b.0 a.2 b.2).0
+    let ok = sym c.is_proper.ensures ∙ c.if-not-is_proper.false in
+    let a = c.front_of-before.ensures in
+    let b = c.front_of-until.ensures in
+    (fronts_rise _ ok _ _ c.if-b-a.false a.0 b.0 a.2 b.2).0
 
 pub overflow_sub-result-2 : goal.overflow_sub-result-2
 overflow_sub-result-2 c =
-    let both = c in
-    let ok = sym both.is_proper.ensures ∙ both.if-not-is_proper.false in
-    let a = both.front_of-before.ensures in
-    let b = both.front_of-until.ensures in
-    (fronts_rise _ ok _ _ both.if-b-a.false a.0 b.0 a.2 b.2).1
+    let ok = sym c.is_proper.ensures ∙ c.if-not-is_proper.false in
+    let a = c.front_of-before.ensures in
+    let b = c.front_of-until.ensures in
+    (fronts_rise _ ok _ _ c.if-b-a.false a.0 b.0 a.2 b.2).1
 
 pub returns : goal.returns
 returns c =
-    let both = c in
-    let ok = sym both.is_proper.ensures ∙ both.if-not-is_proper.false in
-    let a = both.front_of-before.ensures in
-    let b = both.front_of-until.ensures in
-    told_between _ ok _ _ both.if-b-a.false a.0 b.0 a.2 b.2
+    let ok = sym c.is_proper.ensures ∙ c.if-not-is_proper.false in
+    let a = c.front_of-before.ensures in
+    let b = c.front_of-until.ensures in
+    told_between _ ok _ _ c.if-b-a.false a.0 b.0 a.2 b.2

@@ -11,23 +11,16 @@ pub well_minute-next-requires : goal.well_minute-next-requires
 well_minute-next-requires c = let n = proper_bounds _ c.requires.0 in (n.some, n.few, n.short, omega arith)
 
 pub overflow_sub-m : goal.overflow_sub-m
-overflow_sub-m c =
-    let start = c in
-    (enclosed _ start.requires.0 start.args.m c.last_at-last.ensures.0 c.well_minute-here.ensures c.well_minute-next.ensures).0
+overflow_sub-m c = (enclosed _ c.requires.0 c.args.m c.last_at-last.ensures.0 c.well_minute-here.ensures c.well_minute-next.ensures).0
 
 pub overflow_sub-next : goal.overflow_sub-next
 overflow_sub-next c =
-    let start = c in
-    omega (arith, (enclosed _ start.requires.0 start.args.m c.last_at-last.ensures.0 c.well_minute-here.ensures c.well_minute-next.ensures).1)
+    omega (arith, (enclosed _ c.requires.0 c.args.m c.last_at-last.ensures.0 c.well_minute-here.ensures c.well_minute-next.ensures).1)
 
 pub returns-then-m-here : goal.returns-then-m-here
 returns-then-m-here c =
-    let found = c in
-    let start = found in
-    choose_last _ start.requires.0 start.args.m found.last_at-last.ensures.0 found.well_minute-here.ensures found.well_minute-next.ensures (omega (arith, c.if-m-here.true))
+    choose_last _ c.requires.0 c.args.m c.last_at-last.ensures.0 c.well_minute-here.ensures c.well_minute-next.ensures (omega (arith, c.if-m-here.true))
 
 pub returns-else-m-here : goal.returns-else-m-here
 returns-else-m-here c =
-    let found = c in
-    let start = found in
-    choose_next _ start.requires.0 start.args.m found.last_at-last.ensures.0 found.well_minute-here.ensures found.well_minute-next.ensures (omega (arith, c.if-m-here.false))
+    choose_next _ c.requires.0 c.args.m c.last_at-last.ensures.0 c.well_minute-here.ensures c.well_minute-next.ensures (omega (arith, c.if-m-here.false))

@@ -22,18 +22,14 @@ returns-then-left-bytes_taken c =
 pub returns-then-in_vain : goal.returns-then-in_vain
 returns-then-in_vain c =
     let a = c.args in
-    let tests = c in
-    let fields = c in
     c.stopped-then-in_vain.ensures
     ∙ step_vain a.file.now a.at a.first a.gap a.size
-    tests.if-left-eq0.false (sym tests.map_is_wrong.ensures ∙ tests.if-map_is_wrong.false) (rw (← tests.bytes_taken.ensures) tests.if-left-bytes_taken.false)
-    tests.has_gap-with_gap.ensures fields.has_size-with_size.ensures fields.take_field-g.ensures fields.take_field-s.ensures fields.in_vain.ensures fields.in_vain-2.ensures c.if-in_vain.true
+    c.if-left-eq0.false (sym c.map_is_wrong.ensures ∙ c.if-map_is_wrong.false) (rw (← c.bytes_taken.ensures) c.if-left-bytes_taken.false)
+    c.has_gap-with_gap.ensures c.has_size-with_size.ensures c.take_field-g.ensures c.take_field-s.ensures c.in_vain.ensures c.in_vain-2.ensures c.if-in_vain.true
 
 pub returns : goal.returns
 returns c =
     let a = c.args in
-    let tests = c in
-    let fields = c in
     step_taken a.file.now a.at a.first a.gap a.size
-    tests.if-left-eq0.false (sym tests.map_is_wrong.ensures ∙ tests.if-map_is_wrong.false) (rw (← tests.bytes_taken.ensures) tests.if-left-bytes_taken.false)
-    tests.has_gap-with_gap.ensures fields.has_size-with_size.ensures fields.take_field-g.ensures fields.take_field-s.ensures fields.in_vain.ensures fields.in_vain-2.ensures c.if-in_vain.false
+    c.if-left-eq0.false (sym c.map_is_wrong.ensures ∙ c.if-map_is_wrong.false) (rw (← c.bytes_taken.ensures) c.if-left-bytes_taken.false)
+    c.has_gap-with_gap.ensures c.has_size-with_size.ensures c.take_field-g.ensures c.take_field-s.ensures c.in_vain.ensures c.in_vain-2.ensures c.if-in_vain.false
