@@ -1,4 +1,3 @@
--- `fields_allowed` meets its contract. The invariant: the field of every pair passed is allowed.
 use native.Mathlib.Omega.{arith}
 use mathlib.Core.Path.{◌≡◌, sym, ◌∙◌}
 use borrow.Author.Count.{below_more}

@@ -1,5 +1,3 @@
--- `days_before` meets its contract: the open minutes of the days passed are counted, and each day that follows adds those of its
--- windows.
 use Prim.Native.Nat.{◌+◌, ◌*◌, ◌<◌}
 use native.Mathlib.Omega.{arith}
 use mathlib.Core.Path.{◌≡◌, sym}

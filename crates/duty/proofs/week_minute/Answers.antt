@@ -1,4 +1,3 @@
--- `week_minute` meets its contract: n is what is left, and the open minutes of the days passed.
 use Prim.Native.Nat.{◌+◌, ◌*◌, ◌<◌}
 use native.Mathlib.Omega.{arith}
 use mathlib.Core.Path.{◌≡◌}

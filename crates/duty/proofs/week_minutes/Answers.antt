@@ -1,5 +1,3 @@
--- `week_minutes` meets its contract: every day passed keeps the rules, and the open minutes of those days are counted. The first day
--- that breaks one ends the count.
 use Prim.Native.Nat.{◌+◌, ◌*◌}
 use native.Mathlib.Omega.{arith}
 use mathlib.Core.Path.{◌≡◌, sym, ◌∙◌}

@@ -1,5 +1,3 @@
--- The invariant: the largest gap of the range that fits is the largest from s down. A gap that fits ends the search; after one that
--- fails, the gaps that `next_gap` jumps over fail too (proofs/Jumps.antt). The gap falls with each turn.
 use mathlib.Core.Path.{sym, ◌∙◌}
 use native.Mathlib.Omega.{arith}
 use Rattle.even.proofs.Jumps.{next_gap_less}

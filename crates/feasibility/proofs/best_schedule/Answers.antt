@@ -1,5 +1,3 @@
--- The invariant: what is taken so far is the best from the first k to this one. It holds at the first, goes on by one k (`taken_next`), and
--- at the last it is what is taken. Every k from the first to the last has a schedule (`exists_iff`).
 use native.Mathlib.Omega.{arith}
 use mathlib.Core.Path.{◌≡◌, sym}
 use Rattle.spec.proofs.KnownRates.{known}

@@ -1,5 +1,3 @@
--- `aged_of` meets its contract. The invariant: the k reports passed are w minutes old or older, so that the walk over the others gives what is left of
--- the count, and `records` is their sum, each at most 65,535. The measure is what is left of the ring.
 use native.Mathlib.Omega.{arith}
 use mathlib.Core.Path.{sym, ◌∙◌}
 use borrow.Author.Rules.{rules}

@@ -1,5 +1,3 @@
--- `cyclefile::writing::file_length` meets its contract. The loop's invariant: the bytes passed and those of the pairs left are the file's; a pair
--- has at most 5, so that no sum wraps. Assumes nothing.
 use mathlib.Core.Path.{sym}
 use Prim.Native.Nat.{zero-le}
 use native.Mathlib.Nat.{le_refl}

@@ -1,5 +1,3 @@
--- `cyclefile::writing::put_pairs` meets its contract. The loop's invariant: storing the pairs that are left, at the cursor, gives what is to be
--- there at the end; a turn stores the first of them (`stored_next`). Assumes nothing.
 use mathlib.Core.Path.{refl, ◌∙◌}
 use Prim.Native.Nat.{◌<◌, zero-le}
 use native.Mathlib.Omega.{arith}

@@ -1,6 +1,3 @@
--- `filled` meets its contract. The invariant: the window holds its reports, and its first report is the one that it started with. While it
--- has not reached v minutes, the report at its end is before the end of those minutes, so it may be taken in; v is at most a round, so
--- that report is one of the first two rounds. The measure is the minutes that are left: no gap is 0.
 use native.Mathlib.Omega.{arith}
 use mathlib.Core.Path.{refl}
 use borrow.Author.Rules.{rules}

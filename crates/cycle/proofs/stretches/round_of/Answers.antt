@@ -1,4 +1,3 @@
--- `round_of` meets its contract. The invariant: the minutes and the records of the first i reports, of which each has at most 65,535.
 use native.Mathlib.Omega.{arith}
 use mathlib.Core.Path.{◌≡◌, sym}
 use lib.ListN.{length}

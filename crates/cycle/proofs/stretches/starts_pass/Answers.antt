@@ -1,7 +1,3 @@
--- `starts_pass` meets its contract. The invariant: the window starts at report `first`, none of its reports is past the minutes left over,
--- and the rule passed at every report before `first`. Once the window is filled, it holds what those minutes from report `first` hold, and
--- with the whole rounds what all the minutes hold: so each turn judges the stretch that starts at its report. The window's first report
--- is then let go; its end stays, for no stretch ends before the one that started a report earlier.
 use Prim.Native.Nat.{ℕ, ◌/◌, ◌<◌}
 use native.Mathlib.Omega.{arith}
 use mathlib.Core.Path.{◌≡◌, ◌∙◌, sym}

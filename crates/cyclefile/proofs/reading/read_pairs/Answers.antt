@@ -1,5 +1,3 @@
--- `cyclefile::reading::read_pairs` meets its contract. The invariant: what is left of the file, read after the pairs that are stored, decides
--- the answer and the words at the end (`pass_from`). A step stores its pair, stops with its refusal, or none is left. Assumes nothing.
 use mathlib.Core.Path.{◌≡◌, refl, sym, ap, ◌∙◌}
 use Prim.Native.Nat.{ℕ, suc, ◌+◌, ◌-◌, zero-le}
 use native.Mathlib.Omega.{arith}
