@@ -1,9 +1,11 @@
 -- Division rounded up: n is below ⌈a/b⌉ exactly when n × b is below a.
 use Prim.Native.Nat.{ℕ, ◌+◌, ◌-◌, ◌*◌, ◌/◌, ◌≤◌, ◌<◌}
 use native.Mathlib.Omega.{arith}
-use native.Mathlib.Nat.{le-div_iff_mul-le, add-mul, one-mul, div-le_self, div-zero, div-eq_of_lt-le, div-mul-le_self, lt-div-mul-add, mul-le-mul_left, mul-le-mul_right, mul-one, suc-mul, mul-add-div_right, add_assoc, add-zero, div-eq_of_lt, mul-div_cancel}
+use native.Mathlib.Nat.{lt_of_mul-lt-mul_right, le-div_iff_mul-le, add-mul, one-mul, div-le_self, div-zero, div-eq_of_lt-le, div-mul-le_self, lt-div-mul-add, mul-le-mul_left, mul-le-mul_right, mul-one, suc-mul, mul-add-div_right, add_assoc, add-zero, div-eq_of_lt, mul-div_cancel}
 use mathlib.Core.Path.{◌≡◌}
 use mathlib.Core.Logic.{◌↔◌, ⊎_elim}
+use Rattle.std.specs.Int.{div_ceil}
+use Rattle.std.proofs.lemmas.Grind.{div_ceil_times}
 use Rattle.numbers.proofs.Cases.{lt_cases}
 use Rattle.numbers.specs.Numbers.{ceil}
 
@@ -123,3 +125,13 @@ ceil_falls r t s pos h =
     omega arith))
     (λ q. q)
     (lt_cases (ceil r t) (ceil r s))
+
+-- std's quotient rounded up is `ceil`, where the divisor is no 0
+pub div_ceil_is : (a b : ℕ) → 0 < b → div_ceil a b ≡ ceil a b
+div_ceil_is a b pos =
+    let d = div_ceil a b in
+    let times = div_ceil_times a b pos in
+    let next : (ceil a b + 1) * b ≡ ceil a b * b + b = rw (add-mul, one-mul) in
+    let most : ceil a b ≤ d = (ceil_le_iff a b d pos).1 times.0 in
+    let least : d < ceil a b + 1 = lt_of_mul-lt-mul_right b (omega (arith, times.1, ceil_reach b pos a)) in
+    omega arith

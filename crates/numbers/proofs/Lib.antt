@@ -1,4 +1,3 @@
 pub mod Cases
 pub mod Ceilings
 pub mod All
-pub mod Negated

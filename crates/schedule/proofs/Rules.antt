@@ -5,7 +5,7 @@ use mathlib.Core.Path.{◌≡◌}
 use mathlib.Core.Logic.{⊎_elim}
 use mathlib.Core.Bool.{Bool, true, false}
 use Rattle.spec.specs.declared.Rate.{Rate}
-use Rattle.spec.specs.declared.Rate.TheVariants.{Absent, Present}
+use Rattle.std.specs.Prelude.{Option, None, Some}
 use Rattle.spec.specs.declared.Spec.{Spec}
 use Rattle.schedule.specs.Schedules.{Schedule}
 use Rattle.schedule.specs.Rules.{SupplyKept, DemandMet, Obeys, TooFull, TooThin, Breaks}
@@ -13,13 +13,13 @@ use Rattle.schedule.specs.Rules.{SupplyKept, DemandMet, Obeys, TooFull, TooThin,
 pub not_both : (b : Bool) → b ≡ true → b ≡ false → ⊥
 not_both b p q = absurd (let z : ◌≡◌ {A = ℕ} 0 1 = cc in omega arith)
 
-pub not_kept : (rate : Rate) (held : ℕ → ℕ → ℕ) → SupplyKept rate held → TooFull rate held → ⊥
-not_kept Absent held kept full = full
-not_kept (Present b r) held kept full = omega (arith, kept full.0, full.1)
+pub not_kept : (rate : Option Rate) (held : ℕ → ℕ → ℕ) → SupplyKept rate held → TooFull rate held → ⊥
+not_kept None held kept full = full
+not_kept (Some x) held kept full = omega (arith, kept full.0, full.1)
 
-pub not_met : (rate : Rate) (held : ℕ → ℕ → ℕ) → DemandMet rate held → TooThin rate held → ⊥
-not_met Absent held met thin = thin
-not_met (Present l p) held met thin = omega (arith, met thin.0, thin.1)
+pub not_met : (rate : Option Rate) (held : ℕ → ℕ → ℕ) → DemandMet rate held → TooThin rate held → ⊥
+not_met None held met thin = thin
+not_met (Some x) held met thin = omega (arith, met thin.0, thin.1)
 
 pub breaks_not_obeys : (spec : Spec) (s : Schedule) → Breaks spec s → ¬ Obeys spec s
 breaks_not_obeys spec s b o =

@@ -10,7 +10,7 @@ use mathlib.Core.Bool.{and-false}
 use borrow.Author.Tests.{le-leb, lt-leb, lt-ltb, le-ltb}
 use Rattle.numbers.proofs.Cases.{lt_cases}
 use Rattle.spec.specs.declared.Rate.{Rate}
-use Rattle.spec.specs.declared.Rate.TheVariants.{Absent, Present}
+use Rattle.std.specs.Prelude.{Option, None, Some}
 use Rattle.spec.specs.declared.Spec.{Spec}
 use Rattle.schedule.specs.Schedules.{Schedule, sum, stretch, share}
 use Rattle.schedule.specs.Timed.{Timed, timed_share, timed_stretch, timed_gap, planned}
@@ -28,13 +28,13 @@ module _ (spec : Spec) (s : Schedule) where
   planned_gap : (i : ℕ) → timed_gap (planned s) i ≡ s.gap i
   planned_gap i = rw (minute_more s i) (omega arith)
 
-  planned_supply : (r : Rate) → SupplyKept r (timed_stretch (planned s)) ↔ SupplyKept r (stretch s)
-  planned_supply Absent = (λ h. h, λ h. h)
-  planned_supply (Present b r) = (λ h a. rw (planned_stretch s a r) at (h a), λ h a. rw (planned_stretch s a r) (h a))
+  planned_supply : (r : Option Rate) → SupplyKept r (timed_stretch (planned s)) ↔ SupplyKept r (stretch s)
+  planned_supply None = (λ h. h, λ h. h)
+  planned_supply (Some x) = (λ h a. rw (planned_stretch s a x.minutes) at (h a), λ h a. rw (planned_stretch s a x.minutes) (h a))
 
-  planned_demand : (r : Rate) → DemandMet r (timed_stretch (planned s)) ↔ DemandMet r (stretch s)
-  planned_demand Absent = (λ h. h, λ h. h)
-  planned_demand (Present l p) = (λ h a. rw (planned_stretch s a p) at (h a), λ h a. rw (planned_stretch s a p) (h a))
+  planned_demand : (r : Option Rate) → DemandMet r (timed_stretch (planned s)) ↔ DemandMet r (stretch s)
+  planned_demand None = (λ h. h, λ h. h)
+  planned_demand (Some x) = (λ h a. rw (planned_stretch s a x.minutes) at (h a), λ h a. rw (planned_stretch s a x.minutes) (h a))
 
   -- and the four rules are those of before
   pub planned_obeys : TimedObeys spec (planned s) ↔ Obeys spec s

@@ -1,9 +1,8 @@
 -- Document 01, "The four rules: each size and each gap is in range; each stretch of R minutes holds at most B records; each of
 -- P minutes holds at least L. An absent rate drops its rule." Stretches start at every minute from 0 on. The rules are stated once, of
 -- reports with these sizes and gaps, whose stretch of w minutes from a holds `held a w`: those of a schedule, and those at given minutes.
-use Rattle.std.specs.Prelude.{ℕ, ◌≤◌, ◌<◌, ◌≡◌, ◌⊎◌, true, false}
+use Rattle.std.specs.Prelude.{ℕ, ◌≤◌, ◌<◌, ◌≡◌, ◌⊎◌, true, false, Option, None, Some}
 use Rattle.spec.specs.declared.Rate.{Rate}
-use Rattle.spec.specs.declared.Rate.TheVariants.{Absent, Present}
 use Rattle.spec.specs.declared.Spec.{Spec}
 use Rattle.spec.specs.Limits.{size_allowed, gap_allowed}
 use Rattle.schedule.specs.Schedules.{Schedule, stretch}
@@ -17,14 +16,14 @@ abbrev pub GapsAllowed : Spec → (ℕ → ℕ) → Type 0
 GapsAllowed spec gap = (i : ℕ) → gap_allowed spec (gap i) ≡ true
 
 -- each stretch of R minutes holds at most B records
-abbrev pub SupplyKept : Rate → (ℕ → ℕ → ℕ) → Type 0
-SupplyKept Absent held = Unit {0}
-SupplyKept (Present b r) held = (a : ℕ) → held a r ≤ b
+abbrev pub SupplyKept : Option Rate → (ℕ → ℕ → ℕ) → Type 0
+SupplyKept None held = Unit {0}
+SupplyKept (Some x) held = (a : ℕ) → held a x.minutes ≤ x.records
 
 -- each stretch of P minutes holds at least L records
-abbrev pub DemandMet : Rate → (ℕ → ℕ → ℕ) → Type 0
-DemandMet Absent held = Unit {0}
-DemandMet (Present l p) held = (a : ℕ) → l ≤ held a p
+abbrev pub DemandMet : Option Rate → (ℕ → ℕ → ℕ) → Type 0
+DemandMet None held = Unit {0}
+DemandMet (Some x) held = (a : ℕ) → x.records ≤ held a x.minutes
 
 pub record FourRules (spec : Spec) (size gap : ℕ → ℕ) (held : ℕ → ℕ → ℕ) : Type 0 where
   pub sizes : SizesAllowed spec size
@@ -46,13 +45,13 @@ SizeBroken spec size = (i : ℕ) × (size_allowed spec (size i) ≡ false)
 abbrev pub GapBroken : Spec → (ℕ → ℕ) → Type 0
 GapBroken spec gap = (i : ℕ) × (gap_allowed spec (gap i) ≡ false)
 
-abbrev pub TooFull : Rate → (ℕ → ℕ → ℕ) → Type 0
-TooFull Absent held = ⊥
-TooFull (Present b r) held = (a : ℕ) × (b < held a r)
+abbrev pub TooFull : Option Rate → (ℕ → ℕ → ℕ) → Type 0
+TooFull None held = ⊥
+TooFull (Some x) held = (a : ℕ) × (x.records < held a x.minutes)
 
-abbrev pub TooThin : Rate → (ℕ → ℕ → ℕ) → Type 0
-TooThin Absent held = ⊥
-TooThin (Present l p) held = (a : ℕ) × (held a p < l)
+abbrev pub TooThin : Option Rate → (ℕ → ℕ → ℕ) → Type 0
+TooThin None held = ⊥
+TooThin (Some x) held = (a : ℕ) × (held a x.minutes < x.records)
 
 -- a schedule "breaks one of the four rules" (document 02, Req 10)
 abbrev pub Breaks : Spec → Schedule → Type 0

@@ -6,10 +6,10 @@ use mathlib.Core.Logic.{◌⊎◌, inl, inr, ◌↔◌, ⊎_elim}
 use mathlib.Core.Bool.{Bool, true, false, ◌||◌, and-eq-true_iff, and-false}
 use lib.Dec.{leb}
 use borrow.Author.Tests.{leb-true, le-leb, lt-leb, ltb-true, ltb-false, le-ltb}
+use Rattle.std.specs.Prelude.{Option, None, Some}
 use Rattle.spec.specs.declared.Range.{Range}
-use Rattle.spec.specs.declared.Range.TheVariants.{Absent as NoRange, Present as RangeOf}
 use Rattle.spec.specs.declared.Spec.{Spec}
-use Rattle.spec.specs.Limits.{between, limits, order, rate_limits, range_limits, range_order, starts_above, in_range, first_number, spec_number, IsAccepted, size_allowed, gap_allowed, top_of, gap_top}
+use Rattle.spec.specs.Limits.{range_of, between, limits, order, rate_limits, range_limits, range_order, starts_above, in_range, first_number, spec_number, IsAccepted, size_allowed, gap_allowed, top_of, gap_top}
 
 pub leb_iff : (a b : ℕ) → (leb a b ≡ true) ↔ (a ≤ b)
 leb_iff a b = (leb-true a b, le-leb a b)
@@ -37,22 +37,21 @@ last_fails true false d = (λ e. absurd (omega arith), λ h. absurd (let c = h.1
 last_fails false c d = (λ e. absurd (omega arith), λ h. absurd (let b = h.0 in let z : ◌≡◌ {A = ℕ} 0 1 = cc in omega arith))
 
 -- 24, in numbers: ranges that touch do not get it
-starts_low : (x : Range) (top : ℕ) → (starts_above x top ≡ false) ↔ ((lo : ℕ) × (hi : ℕ) × (x ≡ RangeOf lo hi) × (lo ≤ top))
+starts_low : (x : Option Range) (top : ℕ) → (starts_above x top ≡ false) ↔ ((lo : ℕ) × (hi : ℕ) × (x ≡ Some (range_of lo hi)) × (lo ≤ top))
 unfolding starts_above
-starts_low NoRange top = (
+starts_low None top = (
   λ e. absurd (let z : ◌≡◌ {A = ℕ} 0 1 = cc in omega arith),
-  λ h. absurd (let e : NoRange ≡ RangeOf h.0 h.1 = h.2 in let z : ◌≡◌ {A = ℕ} 0 1 = cc in omega arith),
+  λ h. absurd (let e : None ≡ Some (range_of h.0 h.1) = h.2 in let z : ◌≡◌ {A = ℕ} 0 1 = cc in omega arith),
 )
-starts_low (RangeOf lo hi) top = (
-  λ e. (lo, hi, refl, ltb-false top lo e),
+starts_low (Some x) top = (
+  λ e. (x.min, x.max, refl, ltb-false top x.min e),
   λ h.
-      let e : RangeOf lo hi ≡ RangeOf h.0 h.1 = h.2 in
-      let low : lo ≡ h.0 = cc in
-      le-ltb top lo (omega (arith, h.3)),
+      let e : x ≡ range_of h.0 h.1 = let e : Some x ≡ Some (range_of h.0 h.1) = h.2 in cc in
+      le-ltb top x.min (rw e h.3),
 )
 
 pub number_24 : (s : Spec)
-    → (spec_number s ≡ 24) ↔ ((limits s ≡ true) × (order s ≡ true) × ((lo : ℕ) × (hi : ℕ) × (s.second ≡ RangeOf lo hi) × (lo ≤ s.smax)))
+    → (spec_number s ≡ 24) ↔ ((limits s ≡ true) × (order s ≡ true) × ((lo : ℕ) × (hi : ℕ) × (s.second ≡ Some (range_of lo hi)) × (lo ≤ s.smax)))
 unfolding spec_number
 number_24 s =
     let last = last_fails (limits s) (order s) (starts_above s.second s.smax) in
@@ -96,7 +95,7 @@ facts s e =
       second_above = h.2;
     }
 
-pub range_limits_iff : (top lo hi : ℕ) → (range_limits top (RangeOf lo hi) ≡ true) ↔ ((1 ≤ lo) × (lo ≤ top) × (1 ≤ hi) × (hi ≤ top))
+pub range_limits_iff : (top lo hi : ℕ) → (range_limits top (Some (range_of lo hi)) ≡ true) ↔ ((1 ≤ lo) × (lo ≤ top) × (1 ≤ hi) × (hi ≤ top))
 unfolding range_limits
 range_limits_iff top lo hi = (
   λ e. let h = simp (and-eq-true_iff, leb_iff) at e in (h.0.0, h.0.1, h.1.0, h.1.1),
@@ -109,7 +108,7 @@ pub record Second (s : Spec) (lo hi : ℕ) : Type 0 where
   pub order : lo ≤ hi
   pub high : hi ≤ 20160
 
-pub second_range : (s : Spec) (lo hi : ℕ) → IsAccepted s → s.second ≡ RangeOf lo hi → Second s lo hi
+pub second_range : (s : Spec) (lo hi : ℕ) → IsAccepted s → s.second ≡ Some (range_of lo hi) → Second s lo hi
 unfolding range_order starts_above
 second_range s lo hi a e =
     let f = facts s a in
@@ -120,7 +119,7 @@ second_range s lo hi a e =
     }
 
 -- the first range is as good a range as the second
-pub first_range : (s : Spec) → IsAccepted s → range_limits 20160 (RangeOf s.smin s.smax) ≡ true
+pub first_range : (s : Spec) → IsAccepted s → range_limits 20160 (Some (range_of s.smin s.smax)) ≡ true
 first_range s a =
     let f = facts s a in
     (range_limits_iff 20160 s.smin s.smax).1 (f.gap_low, omega (arith, f.gaps, f.gap_high), omega (arith, f.gap_low, f.gaps), f.gap_high)
@@ -146,32 +145,30 @@ gap_allowed_iff s g = (
 )
 
 -- no number is in a range that is absent
-pub in_none : (g : ℕ) → ¬ (in_range NoRange g ≡ true)
+pub in_none : (g : ℕ) → ¬ (in_range None g ≡ true)
 unfolding in_range
 in_none g e = absurd (let z : ◌≡◌ {A = ℕ} 0 1 = cc in omega arith)
 
-pub in_bounds : (lo hi g : ℕ) → (in_range (RangeOf lo hi) g ≡ true) ↔ ((lo ≤ g) × (g ≤ hi))
+pub in_bounds : (lo hi g : ℕ) → (in_range (Some (range_of lo hi)) g ≡ true) ↔ ((lo ≤ g) × (g ≤ hi))
 unfolding in_range
 in_bounds lo hi g = between_iff lo hi g
 
-pub in_range_iff : (x : Range) (g : ℕ) → (in_range x g ≡ true) ↔ ((lo : ℕ) × (hi : ℕ) × (x ≡ RangeOf lo hi) × (lo ≤ g) × (g ≤ hi))
-in_range_iff NoRange g = (
+pub in_range_iff : (x : Option Range) (g : ℕ) → (in_range x g ≡ true) ↔ ((lo : ℕ) × (hi : ℕ) × (x ≡ Some (range_of lo hi)) × (lo ≤ g) × (g ≤ hi))
+in_range_iff None g = (
   λ e. absurd (in_none g e),
-  λ h. absurd (let e : NoRange ≡ RangeOf h.0 h.1 = h.2 in let z : ◌≡◌ {A = ℕ} 0 1 = cc in omega arith),
+  λ h. absurd (let e : None ≡ Some (range_of h.0 h.1) = h.2 in let z : ◌≡◌ {A = ℕ} 0 1 = cc in omega arith),
 )
-in_range_iff (RangeOf lo hi) g = (
-  λ e. let k = (in_bounds lo hi g).0 e in (lo, hi, refl, k.0, k.1),
+in_range_iff (Some x) g = (
+  λ e. let k = (in_bounds x.min x.max g).0 e in (x.min, x.max, refl, k.0, k.1),
   λ h.
-      let e : RangeOf lo hi ≡ RangeOf h.0 h.1 = h.2 in
-      let low : lo ≡ h.0 = cc in
-      let high : hi ≡ h.1 = cc in
-      (in_bounds lo hi g).1 (omega (arith, h.3), omega (arith, h.4)),
+      let e : x ≡ range_of h.0 h.1 = let e : Some x ≡ Some (range_of h.0 h.1) = h.2 in cc in
+      rw e ((in_bounds h.0 h.1 g).1 (h.3, h.4)),
 )
 
 -- so it is in either
 pub gap_in_either : (s : Spec) (g : ℕ)
     → (gap_allowed s g ≡ true)
-    ↔ (((s.smin ≤ g) × (g ≤ s.smax)) ⊎ ((lo : ℕ) × (hi : ℕ) × (s.second ≡ RangeOf lo hi) × (lo ≤ g) × (g ≤ hi)))
+    ↔ (((s.smin ≤ g) × (g ≤ s.smax)) ⊎ ((lo : ℕ) × (hi : ℕ) × (s.second ≡ Some (range_of lo hi)) × (lo ≤ g) × (g ≤ hi)))
 gap_in_either s g =
     let allowed = gap_allowed_iff s g in
     let second = in_range_iff s.second g in (
@@ -194,10 +191,10 @@ gap_allowed_pos s g a e = omega (arith, (facts s a).gap_low, gap_allowed_least s
 
 module _ (s : Spec) (a : IsAccepted s) where
   -- the top is at least smax, and at least every gap of the second range
-  top_bounds : (x : Range) → s.second ≡ x → (s.smax ≤ top_of x s.smax) × (top_of x s.smax ≤ 20160)
+  top_bounds : (x : Option Range) → s.second ≡ x → (s.smax ≤ top_of x s.smax) × (top_of x s.smax ≤ 20160)
   unfolding top_of
-  top_bounds NoRange e = (omega arith, (facts s a).gap_high)
-  top_bounds (RangeOf lo hi) e = let k = second_range s lo hi a e in (omega (arith, k.above, k.order), k.high)
+  top_bounds None e = (omega arith, (facts s a).gap_high)
+  top_bounds (Some x) e = let k = second_range s x.min x.max a e in (omega (arith, k.above, k.order), k.high)
 
   pub gap_allowed_top : (g : ℕ) → gap_allowed s g ≡ true → g ≤ gap_top s
   unfolding top_of

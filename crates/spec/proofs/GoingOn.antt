@@ -4,17 +4,14 @@ use Prim.Native.Nat.{ℕ, ◌≤◌}
 use native.Mathlib.Omega.{arith}
 use mathlib.Core.Path.{◌≡◌, refl, sym, ◌∙◌, ap}
 use mathlib.Core.Logic.{◌⊎◌, inl, inr, ◌↔◌, ⊎_elim}
-use mathlib.Core.Bool.{Bool, true, false}
+use mathlib.Core.Bool.{Bool, true, false, cond}
 use lib.Dec.{eqb}
 use borrow.Author.Tests.{eq-eqb, ne_eqb, eqb-true, eqb-false}
+use Rattle.std.specs.Prelude.{Option, None, Some, is_some, Result, Ok, Err}
 use Rattle.spec.specs.declared.Rate.{Rate}
-use Rattle.spec.specs.declared.Rate.TheVariants.{Absent, Present}
 use Rattle.spec.specs.declared.Range.{Range}
-use Rattle.spec.specs.declared.Range.TheVariants.{Absent as NoRange, Present as RangeOf}
 use Rattle.spec.specs.declared.Spec.{Spec}
 use Rattle.spec.specs.declared.Rates.{Rates}
-use Rattle.spec.specs.declared.BothRates.{BothRates}
-use Rattle.spec.specs.declared.BothRates.TheVariants.{Both, Refused}
 use Rattle.spec.specs.Limits.{limits, order, starts_above, first_number, spec_number, IsAccepted, if_none}
 use Rattle.spec.specs.Rates.{second_number, one_range_number, HasTwoRanges, if_one_range, rates_from, both_rates, started, if_rates}
 
@@ -54,10 +51,16 @@ number_few s = pick (limits s) (order s) (starts_above s.second s.smax)
     pick false b c some = inl (omega arith, omega arith)
 
 -- by whether there is a second range
-second_or : (x : Range) → ((x ≡ NoRange) × (second_number x ≡ 0)) ⊎ ((¬ (x ≡ NoRange)) × (second_number x ≡ 25))
+second_or : (x : Option Range) → ((x ≡ None) × (second_number x ≡ 0)) ⊎ ((¬ (x ≡ None)) × (second_number x ≡ 25))
 unfolding second_number
-second_or NoRange = inl (refl, refl)
-second_or (RangeOf lo hi) = inr (λ e. absurd (let z : ◌≡◌ {A = ℕ} 0 1 = cc in omega arith), refl)
+second_or None = inl (refl, refl)
+second_or (Some x) = inr (λ e. absurd (let z : ◌≡◌ {A = ℕ} 0 1 = cc in omega arith), refl)
+
+-- so a test for it tells the number
+pub second_told : (x : Option Range) {there : Bool} → there ≡ is_some x → second_number x ≡ cond there 25 0
+unfolding second_number
+second_told None e = rw e refl
+second_told (Some x) e = rw e refl
 
 -- an accepted specification with one range of gaps
 abbrev pub HasOneRange : Spec → Type 0
@@ -73,7 +76,7 @@ module _ (s : Spec) where
   unfolding one_range_number
   of_accepted a = goes_on (spec_number s) (second_number s.second) (λ n. n) a
 
-  pub one_range_iff : HasOneRange s ↔ (IsAccepted s × (s.second ≡ NoRange))
+  pub one_range_iff : HasOneRange s ↔ (IsAccepted s × (s.second ≡ None))
   one_range_iff = (
     λ e.
         let a = ⊎_elim (λ h. h) (λ h. absurd (h (sym (of_refused h) ∙ e))) (none_or (spec_number s)) in
@@ -117,48 +120,48 @@ module _ (s : Spec) where
   unfolding started
   rates_begin goOn tell =
       ⊎_elim
-      (λ z. rw (goes_on (one_range_number s) (both_rates s) Refused z, goes_on (one_range_number s) (if_rates (both_rates s) goOn tell) tell z))
-      (λ z. rw (stops (one_range_number s) (both_rates s) Refused z, stops (one_range_number s) (if_rates (both_rates s) goOn tell) tell z))
+      (λ z. rw (goes_on (one_range_number s) (both_rates s) Err z, goes_on (one_range_number s) (if_rates (both_rates s) goOn tell) tell z))
+      (λ z. rw (stops (one_range_number s) (both_rates s) Err z, stops (one_range_number s) (if_rates (both_rates s) goOn tell) tell z))
       (none_or (one_range_number s))
 
 -- both rates, of a specification with one range of gaps only; else 5
-from_rates : (supply demand : Rate) (n : ℕ) → rates_from supply demand ≡ Refused n → n ≡ 5
+from_rates : (supply demand : Option Rate) (n : ℕ) → rates_from supply demand ≡ Err n → n ≡ 5
 unfolding rates_from
-from_rates (Present b r) (Present l p) n e = absurd (let z : ◌≡◌ {A = ℕ} 0 1 = cc in omega arith)
-from_rates (Present b r) Absent n e = let z : ◌≡◌ {A = ℕ} 5 n = cc in sym z
-from_rates Absent demand n e = let z : ◌≡◌ {A = ℕ} 5 n = cc in sym z
+from_rates (Some x) (Some y) n e = absurd (let z : ◌≡◌ {A = ℕ} 0 1 = cc in omega arith)
+from_rates (Some x) None n e = let z : ◌≡◌ {A = ℕ} 5 n = cc in sym z
+from_rates None demand n e = let z : ◌≡◌ {A = ℕ} 5 n = cc in sym z
 
-rate_absent : (s : Spec) (n : ℕ) → both_rates s ≡ Refused n → n ≡ 5
+rate_absent : (s : Spec) (n : ℕ) → both_rates s ≡ Err n → n ≡ 5
 unfolding both_rates
 rate_absent s n e = from_rates s.supply s.demand n e
 
 module _ (s : Spec) (q : Rates) where
-  pub started_both : started s ≡ Both q → HasOneRange s × (both_rates s ≡ Both q)
+  pub started_both : started s ≡ Ok q → HasOneRange s × (both_rates s ≡ Ok q)
   unfolding started
   started_both e =
-      went_on (one_range_number s) (both_rates s) Refused (Both q) (λ some h. absurd (let z : ◌≡◌ {A = ℕ} 0 1 = cc in omega arith)) e
+      went_on (one_range_number s) (both_rates s) Err (Ok q) (λ some h. absurd (let z : ◌≡◌ {A = ℕ} 0 1 = cc in omega arith)) e
 
-  pub started_at : HasOneRange s → both_rates s ≡ Both q → started s ≡ Both q
+  pub started_at : HasOneRange s → both_rates s ≡ Ok q → started s ≡ Ok q
   unfolding started
-  started_at h e = goes_on (one_range_number s) (both_rates s) Refused h ∙ e
+  started_at h e = goes_on (one_range_number s) (both_rates s) Err h ∙ e
 
 -- the numbers that it may refuse with: 3 to 5, 24 and 25
-pub started_numbers : (s : Spec) (n : ℕ) → started s ≡ Refused n → ((3 ≤ n) × (n ≤ 5)) ⊎ ((24 ≤ n) × (n ≤ 25))
+pub started_numbers : (s : Spec) (n : ℕ) → started s ≡ Err n → ((3 ≤ n) × (n ≤ 5)) ⊎ ((24 ≤ n) × (n ≤ 25))
 unfolding started
 started_numbers s n e =
     ⊎_elim
-    (λ z. inl (omega (arith, rate_absent s n (sym (goes_on (one_range_number s) (both_rates s) Refused z) ∙ e))))
+    (λ z. inl (omega (arith, rate_absent s n (sym (goes_on (one_range_number s) (both_rates s) Err z) ∙ e))))
     (λ z.
-    let is : one_range_number s ≡ n = let x = sym (stops (one_range_number s) (both_rates s) Refused z) ∙ e in cc in
+    let is : one_range_number s ≡ n = let x = sym (stops (one_range_number s) (both_rates s) Err z) ∙ e in cc in
     ⊎_elim (λ h. inl (omega arith, omega arith)) (λ h. inr (omega arith, omega arith)) (one_range_few s z))
     (none_or (one_range_number s))
 
 -- what begins with both rates, and has no 25 of its own, tells 25 exactly there too
 pub rates_tell_25 : (s : Spec) {A : Type 0} (goOn : Rates → A) (tell : ℕ → A) → ((n : ℕ) → tell n ≡ tell 25 → n ≡ 25)
-    → ((q : Rates) → started s ≡ Both q → ¬ (goOn q ≡ tell 25)) → (if_rates (started s) goOn tell ≡ tell 25) ↔ HasTwoRanges s
+    → ((q : Rates) → started s ≡ Ok q → ¬ (goOn q ≡ tell 25)) → (if_rates (started s) goOn tell ≡ tell 25) ↔ HasTwoRanges s
 rates_tell_25 s goOn tell apart none =
     rw (rates_begin s goOn tell) (tells_25 s (if_rates (both_rates s) goOn tell) tell apart (λ one. pick one (both_rates s) refl))
   where
-    pick : HasOneRange s → (r : BothRates) → both_rates s ≡ r → ¬ (if_rates r goOn tell ≡ tell 25)
-    pick one (Both q) e x = none q (started_at s q one e) x
-    pick one (Refused n) e x = omega (arith, apart n x, rate_absent s n e)
+    pick : HasOneRange s → (r : Result Rates ℕ) → both_rates s ≡ r → ¬ (if_rates r goOn tell ≡ tell 25)
+    pick one (Ok q) e x = none q (started_at s q one e) x
+    pick one (Err n) e x = omega (arith, apart n x, rate_absent s n e)

@@ -3,40 +3,39 @@ use Prim.Native.Nat.{ℕ, ◌≤◌}
 use native.Mathlib.Omega.{arith}
 use mathlib.Core.Path.{◌≡◌, refl}
 use mathlib.Core.Bool.{true, and-eq-true_iff}
+use Rattle.std.specs.Prelude.{Option, None, Some, Ok}
 use Rattle.spec.specs.declared.Rate.{Rate}
-use Rattle.spec.specs.declared.Rate.TheVariants.{Absent, Present}
 use Rattle.spec.specs.declared.Spec.{Spec}
 use Rattle.spec.specs.declared.Rates.{Rates}
-use Rattle.spec.specs.declared.BothRates.TheVariants.{Both}
-use Rattle.spec.specs.Limits.{IsAccepted, rate_limits}
+use Rattle.spec.specs.Limits.{rate_of, IsAccepted, rate_limits}
 use Rattle.spec.specs.Rates.{rates_from, both_rates, started}
 use Rattle.spec.proofs.Facts.{facts, leb_iff}
 use Rattle.spec.proofs.GoingOn.{started_both, one_range_iff}
 
 pub record Known (s : Spec) (q : Rates) : Type 0 where
-  pub start : started s ≡ Both q
+  pub start : started s ≡ Ok q
   pub accepted : IsAccepted s
-  pub both : both_rates s ≡ Both q
-  pub supply : s.supply ≡ Present q.b q.r
-  pub demand : s.demand ≡ Present q.l q.p
+  pub both : both_rates s ≡ Ok q
+  pub supply : s.supply ≡ Some (rate_of q.b q.r)
+  pub demand : s.demand ≡ Some (rate_of q.l q.p)
   pub budget : (1 ≤ q.b) × (q.b ≤ 20000)
   pub supply_minutes : (1 ≤ q.r) × (q.r ≤ 20160)
   pub least : (1 ≤ q.l) × (q.l ≤ 20000)
   pub demand_minutes : (1 ≤ q.p) × (q.p ≤ 20160)
 
-pub present_limits : {n m : ℕ} {x : Rate} → x ≡ Present n m → rate_limits x ≡ true → (1 ≤ n) × (n ≤ 20000) × (1 ≤ m) × (m ≤ 20160)
+pub present_limits : {n m : ℕ} {x : Option Rate} → x ≡ Some (rate_of n m) → rate_limits x ≡ true → (1 ≤ n) × (n ≤ 20000) × (1 ≤ m) × (m ≤ 20160)
 unfolding rate_limits
 present_limits e l = let h = simp (and-eq-true_iff, leb_iff) at (rw e at l) in (omega arith, omega arith, omega arith, omega arith)
 
-rates_present : (x y : Rate) (q : Rates) → rates_from x y ≡ Both q → (x ≡ Present q.b q.r) × (y ≡ Present q.l q.p)
+rates_present : (x y : Option Rate) (q : Rates) → rates_from x y ≡ Ok q → (x ≡ Some (rate_of q.b q.r)) × (y ≡ Some (rate_of q.l q.p))
 unfolding rates_from
-rates_present Absent y q e = absurd (let z : ◌≡◌ {A = ℕ} 0 1 = cc in omega arith)
-rates_present (Present b r) Absent q e = absurd (let z : ◌≡◌ {A = ℕ} 0 1 = cc in omega arith)
-rates_present (Present b r) (Present l p) q e =
-    let same : record { b = b; r = r; l = l; p = p } ≡ q = cc in
+rates_present None y q e = absurd (let z : ◌≡◌ {A = ℕ} 0 1 = cc in omega arith)
+rates_present (Some x) None q e = absurd (let z : ◌≡◌ {A = ℕ} 0 1 = cc in omega arith)
+rates_present (Some x) (Some y) q e =
+    let same : record { b = x.records; r = x.minutes; l = y.records; p = y.minutes } ≡ q = cc in
     rw (← same) (refl, refl)
 
-pub known : (s : Spec) (q : Rates) → started s ≡ Both q → Known s q
+pub known : (s : Spec) (q : Rates) → started s ≡ Ok q → Known s q
 unfolding both_rates
 known s q e =
     let both = started_both s q e in

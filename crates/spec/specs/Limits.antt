@@ -1,12 +1,17 @@
 -- Document 01, "The specification": the limits of its values, and the order of each pair of bounds; "What each operation
 -- turns down": refusals 3 and 4, with which every operation on a specification begins. Document 02, Req 06: a second range of gaps, and
 -- refusal 24 after them. The numbers of a pair that is absent are not looked at.
-use Rattle.std.specs.Prelude.{ℕ, ◌≡◌, Bool, true, false, cond, ◌&&◌, ◌||◌, leb, ltb, eqb}
+use Rattle.std.specs.Prelude.{ℕ, ◌≡◌, Bool, true, false, cond, ◌&&◌, ◌||◌, leb, ltb, eqb, Option, None, Some}
 use Rattle.spec.specs.declared.Rate.{Rate}
-use Rattle.spec.specs.declared.Rate.TheVariants.{Absent, Present}
 use Rattle.spec.specs.declared.Range.{Range}
-use Rattle.spec.specs.declared.Range.TheVariants.{Absent as NoRange, Present as RangeOf}
 use Rattle.spec.specs.declared.Spec.{Spec}
+
+-- a rate and a range by their numbers: so many records in so many minutes, and from lo to hi
+abbrev pub rate_of : ℕ → ℕ → Rate
+rate_of records minutes = record { records = records; minutes = minutes }
+
+abbrev pub range_of : ℕ → ℕ → Range
+range_of lo hi = record { min = lo; max = hi }
 
 -- lo ≤ x ≤ hi, as a test
 abbrev pub between : ℕ → ℕ → ℕ → Bool
@@ -17,27 +22,27 @@ abbrev pub bounds_limits : ℕ → ℕ → ℕ → Bool
 bounds_limits top lo hi = between 1 top lo && between 1 top hi
 
 -- a range that may be absent: its bounds, that the lower is not above the upper, and that it starts above a number
-unfoldable pub range_limits : ℕ → Range → Bool
-range_limits top NoRange = true
-range_limits top (RangeOf lo hi) = bounds_limits top lo hi
+unfoldable pub range_limits : ℕ → Option Range → Bool
+range_limits top None = true
+range_limits top (Some x) = bounds_limits top x.min x.max
 
-unfoldable pub range_order : Range → Bool
-range_order NoRange = true
-range_order (RangeOf lo hi) = leb lo hi
+unfoldable pub range_order : Option Range → Bool
+range_order None = true
+range_order (Some x) = leb x.min x.max
 
-unfoldable pub starts_above : Range → ℕ → Bool
-starts_above NoRange top = true
-starts_above (RangeOf lo hi) top = ltb top lo
+unfoldable pub starts_above : Option Range → ℕ → Bool
+starts_above None top = true
+starts_above (Some x) top = ltb top x.min
 
 -- which numbers it has: none where it is absent
-unfoldable pub in_range : Range → ℕ → Bool
-in_range NoRange x = false
-in_range (RangeOf lo hi) x = between lo hi x
+unfoldable pub in_range : Option Range → ℕ → Bool
+in_range None n = false
+in_range (Some x) n = between x.min x.max n
 
 -- "budget B, 1 to 20,000 records; R, 1 to 20,160 minutes", and the same of L and P
-unfoldable pub rate_limits : Rate → Bool
-rate_limits Absent = true
-rate_limits (Present records minutes) = between 1 20_000 records && between 1 20_160 minutes
+unfoldable pub rate_limits : Option Rate → Bool
+rate_limits None = true
+rate_limits (Some x) = between 1 20_000 x.records && between 1 20_160 x.minutes
 
 -- "dmin to dmax, each 1 to 1,000 records", "smin to smax, each 1 to 20,160 minutes"; "Tmin and Tmax, each 1 to 60,000 minutes"; of the
 -- second range of gaps "limits are those of the first"
@@ -82,9 +87,9 @@ unfoldable pub gap_allowed : Spec → ℕ → Bool
 gap_allowed s g = between s.smin s.smax g || in_range s.second g
 
 -- no gap above this is allowed: the upper bound of the second range where there is one, else smax
-unfoldable pub top_of : Range → ℕ → ℕ
-top_of NoRange smax = smax
-top_of (RangeOf lo hi) smax = hi
+unfoldable pub top_of : Option Range → ℕ → ℕ
+top_of None smax = smax
+top_of (Some x) smax = x.max
 
 abbrev pub gap_top : Spec → ℕ
 gap_top s = top_of s.second s.smax

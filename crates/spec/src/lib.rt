@@ -1,66 +1,83 @@
 // A specification: its numbers with two rates, a range of durations and a second range of gaps that may be absent, the limits and the
 // order of its values, and its file (document 01, "The specification"; document 02, Req 06). Refusals 1 to 5, 24 and 25. What the numbers
-// mean for a schedule is left to the crates above; `refusal` names the numbers of every refusal.
+// mean for a schedule is left to the crates above; `refusal` names every refusal.
 #![tactic(auto)]
 
 pub mod refusal;
 
-ghost use Rattle.std.specs.Prelude.{◌≡◌, ◌+◌, ◌*◌, ◌<◌, ◌≤◌, length};
-ghost use Rattle.spec.specs.declared.Rate.TheVariants.{Absent, Present};
-ghost use Rattle.spec.specs.declared.Range.TheVariants.{Absent as NoRange, Present as RangeOf};
-ghost use Rattle.spec.specs.Limits.{between, bounds_limits, rate_limits, range_limits, limits, range_order, order, starts_above, in_range, first_number, spec_number, size_allowed, gap_allowed};
-ghost use Rattle.spec.specs.File.{if_read, word, demand_at, duration_at, second_at, file_length, if_stands, spec_at, accept, read_spec};
-ghost use Rattle.spec.specs.Rates.{second_number, one_range_number, both_rates, started, if_rates};
+ghost use Rattle.std.specs.Prelude.{◌≡◌, ◌+◌, ◌*◌, ◌<◌, ◌≤◌, Option, None, Some, Result, Ok, Err, length};
+ghost use Rattle.spec.specs.Refusals.{numbered, answer_number};
+ghost use Rattle.spec.specs.Limits.{rate_of, range_of, between, bounds_limits, rate_limits, range_limits, limits, range_order, order, starts_above, in_range, first_number, spec_number, size_allowed, gap_allowed, IsAccepted};
+ghost use Rattle.spec.specs.File.{word, map_good, demand_at, duration_at, second_at, file_length, if_stands, spec_at, accept, read_spec};
+ghost use Rattle.spec.specs.Rates.{one_range_number, rates_from, started};
 
-// A rate, which may be absent: so many records in so many minutes. A supply rate (B, R) is the most that so many minutes
-// may hold, a demand rate (L, P) the least.
-#[derive(Clone, Copy)]
-pub enum Rate {
-    Absent,
-    Present { records: u16, minutes: u16 },
+use refusal::Refusal;
+
+// A rate: so many records in so many minutes. A supply rate (B, R) is the most that so many minutes may hold, a demand rate (L, P) the
+// least.
+#[derive(Clone, Copy, Debug, PartialEq, Eq)]
+pub struct Rate {
+    pub records: u16,
+    pub minutes: u16,
 }
 
-// A range, which may be absent: from `min` to `max`, as Tmin to Tmax, or the second range of gaps.
-#[derive(Clone, Copy)]
-pub enum Range {
-    Absent,
-    Present { min: u16, max: u16 },
+impl From<(u16, u16)> for Rate {
+    ghost use Rattle.std.specs.Prelude.{◌≡◌};
+    ghost use Rattle.spec.specs.Limits.{rate_of};
+
+    ghost from_gives = { λ numbers rate. rate ≡ rate_of numbers.0 numbers.1 };
+
+    fn from((records, minutes): (u16, u16)) -> Rate {
+        Rate { records, minutes }
+    }
 }
 
-// Sizes dmin to dmax in records, gaps smin to smax, or in the second range, in minutes.
-#[derive(Clone, Copy)]
+// From `min` to `max`, as Tmin to Tmax, or the second range of gaps.
+#[derive(Clone, Copy, Debug, PartialEq, Eq)]
+pub struct Range {
+    pub min: u16,
+    pub max: u16,
+}
+
+impl From<(u16, u16)> for Range {
+    ghost use Rattle.std.specs.Prelude.{◌≡◌};
+    ghost use Rattle.spec.specs.Limits.{range_of};
+
+    ghost from_gives = { λ numbers range. range ≡ range_of numbers.0 numbers.1 };
+
+    fn from((min, max): (u16, u16)) -> Range {
+        Range { min, max }
+    }
+}
+
+// Sizes dmin to dmax in records, gaps smin to smax, or in the second range, in minutes. The rates, the durations and the second range may
+// be absent.
+#[derive(Clone, Copy, Debug, PartialEq, Eq)]
 pub struct Spec {
     pub dmin: u16,
     pub dmax: u16,
     pub smin: u16,
     pub smax: u16,
-    pub supply: Rate,
-    pub demand: Rate,
-    pub duration: Range,
-    pub second: Range,
+    pub supply: Option<Rate>,
+    pub demand: Option<Rate>,
+    pub duration: Option<Range>,
+    pub second: Option<Range>,
 }
 
-// What reading a specification file gives: an accepted specification, or the number of its refusal.
-#[derive(Clone, Copy)]
-pub enum SpecRead {
-    Accepted(Spec),
-    Refused(u32),
+// A specification that gets none of 3, 4 and 24.
+#[derive(Clone, Copy, Debug, PartialEq, Eq)]
+pub struct Accepted {
+    pub spec: Spec,
+    pub ghost accepted: { IsAccepted spec },
 }
 
 // B and R of the supply rate, L and P of the demand rate.
-#[derive(Clone, Copy)]
+#[derive(Clone, Copy, Debug, PartialEq, Eq)]
 pub struct Rates {
     pub b: u16,
     pub r: u16,
     pub l: u16,
     pub p: u16,
-}
-
-// Both rates, or the number of the refusal where one is absent.
-#[derive(Clone, Copy)]
-pub enum BothRates {
-    Both(Rates),
-    Refused(u32),
 }
 
 fn within(lo: u16, hi: u16, x: u16) -> bool
@@ -76,313 +93,247 @@ fn bounds_limits(top: u16, lo: u16, hi: u16) -> bool
     within(1, top, lo) & within(1, top, hi)
 }
 
-fn range_limits(top: u16, x: Range) -> bool
-    ensures { result ≡ range_limits top x }
+// Of a range and a rate that may be absent: what is asked of the one that is there.
+#[tactic(auto, unfolding(crate::specs::Limits::range_limits))]
+fn range_limits(top: u16, range: Option<Range>) -> bool
+    ensures { result ≡ range_limits top range }
 {
-    match x {
-        Range::Absent => true,
-        Range::Present { min, max } => bounds_limits(top, min, max),
-    }
+    range.is_none_or(|x| bounds_limits(top, x.min, x.max))
 }
 
-fn range_order(x: Range) -> bool
-    ensures { result ≡ range_order x }
+#[tactic(auto, unfolding(crate::specs::Limits::range_order))]
+fn range_order(range: Option<Range>) -> bool
+    ensures { result ≡ range_order range }
 {
-    match x {
-        Range::Absent => true,
-        Range::Present { min, max } => min <= max,
-    }
+    range.is_none_or(|x| x.min <= x.max)
+}
+
+#[tactic(auto, unfolding(crate::specs::Limits::rate_limits))]
+fn rate_limits(rate: Option<Rate>) -> bool
+    ensures { result ≡ rate_limits rate }
+{
+    rate.is_none_or(|x| within(1, 20000, x.records) & within(1, 20160, x.minutes))
 }
 
 // Whether a range starts above a number, as every absent one does.
-fn starts_above(x: Range, top: u16) -> bool
-    ensures { result ≡ starts_above x top }
+#[tactic(auto, unfolding(crate::specs::Limits::starts_above))]
+fn starts_above(range: Option<Range>, top: u16) -> bool
+    ensures { result ≡ starts_above range top }
 {
-    match x {
-        Range::Absent => true,
-        Range::Present { min, max: _ } => top < min,
-    }
+    range.is_none_or(|x| top < x.min)
 }
 
 // Whether a range has a number, as no absent one does.
-fn in_range(x: Range, n: u16) -> bool
-    ensures { result ≡ in_range x n }
+#[tactic(auto, unfolding(crate::specs::Limits::in_range))]
+fn in_range(range: Option<Range>, n: u16) -> bool
+    ensures { result ≡ in_range range n }
 {
-    match x {
-        Range::Absent => false,
-        Range::Present { min, max } => within(min, max, n),
-    }
+    range.is_some_and(|x| within(x.min, x.max, n))
 }
 
-fn rate_limits(x: Rate) -> bool
-    ensures { result ≡ rate_limits x }
-{
-    match x {
-        Rate::Absent => true,
-        Rate::Present { records, minutes } => within(1, 20000, records) & within(1, 20160, minutes),
-    }
-}
-
-fn in_limits(s: Spec) -> bool
-    ensures { result ≡ limits s }
-{
-    let supply = s.supply;
-    let demand = s.demand;
-    let duration = s.duration;
-    let second = s.second;
-    bounds_limits(1000, s.dmin, s.dmax)
-        & bounds_limits(20160, s.smin, s.smax)
-        & rate_limits(supply)
-        & rate_limits(demand)
-        & range_limits(60000, duration)
-        & range_limits(20160, second)
-}
-
-fn in_order(s: Spec) -> bool
-    ensures { result ≡ order s }
-{
-    let duration = s.duration;
-    let second = s.second;
-    (s.dmin <= s.dmax) & (s.smin <= s.smax) & range_order(duration) & range_order(second)
-}
-
-// The first number that applies, 0 where all three hold.
-fn first_number(limits: bool, order: bool, apart: bool) -> u32
-    ensures { result ≡ first_number limits order apart }
+// The first refusal that applies, if any.
+#[tactic(auto, unfolding(crate::specs::Limits::first_number))]
+fn first_refusal(limits: bool, order: bool, apart: bool) -> Result<(), Refusal>
+    ensures { answer_number result ≡ first_number limits order apart }
 {
     if !limits {
-        return refusal::LIMITS;
+        return Err(Refusal::Limits);
     }
     if !order {
-        return refusal::ORDER;
+        return Err(Refusal::Order);
     }
     if !apart {
-        return refusal::RANGES;
+        return Err(Refusal::Ranges);
     }
-    0
-}
-
-// 0, or the number of the refusal with which every operation on a specification begins.
-pub fn spec_number(s: Spec) -> u32
-    ensures { result ≡ spec_number s }
-{
-    let second = s.second;
-    first_number(in_limits(s), in_order(s), starts_above(second, s.smax))
-}
-
-// Whether the size is in its range, the gap in one of its own.
-pub fn size_allowed(s: Spec, size: u16) -> bool
-    ensures { result ≡ size_allowed s size }
-{
-    within(s.dmin, s.dmax, size)
-}
-
-pub fn gap_allowed(s: Spec, gap: u16) -> bool
-    ensures { result ≡ gap_allowed s gap }
-{
-    let second = s.second;
-    within(s.smin, s.smax, gap) | in_range(second, gap)
-}
-
-// 25, where there is a second range.
-fn second_number(x: Range) -> u32
-    ensures { result ≡ second_number x }
-{
-    match x {
-        Range::Absent => 0,
-        Range::Present { min: _, max: _ } => refusal::TWO_RANGES,
-    }
-}
-
-// 0, or the number of the refusal with which consistency, schedules for k reports and the test begin: these take one range of gaps.
-pub fn one_range_number(s: Spec) -> u32
-    ensures { result ≡ one_range_number s }
-{
-    let n = spec_number(s);
-    if n != 0 {
-        return n;
-    }
-    let second = s.second;
-    second_number(second)
+    Ok(())
 }
 
 // B, R, L and P, where both rates are there, or refusal 5.
-fn both_rates(s: Spec) -> BothRates
-    ensures { result ≡ both_rates s }
+#[tactic(auto, unfolding(crate::specs::Rates::rates_from))]
+fn both_rates(supply: Option<Rate>, demand: Option<Rate>) -> Result<Rates, Refusal>
+    ensures { numbered result ≡ rates_from supply demand }
 {
-    let supply = s.supply;
-    let demand = s.demand;
-    match supply {
-        Rate::Absent => BothRates::Refused(refusal::RATE_ABSENT),
-        Rate::Present {
-            records: b,
-            minutes: r,
-        } => match demand {
-            Rate::Absent => BothRates::Refused(refusal::RATE_ABSENT),
-            Rate::Present {
-                records: l,
-                minutes: p,
-            } => BothRates::Both(Rates { b, r, l, p }),
-        },
+    let (Some(most), Some(least)) = (supply, demand) else {
+        return Err(Refusal::RateAbsent);
+    };
+    Ok(Rates {
+        b: most.records,
+        r: most.minutes,
+        l: least.records,
+        p: least.minutes,
+    })
+}
+
+impl Spec {
+    #[tactic(auto, unfolding(crate::specs::Limits::limits))]
+    fn in_limits(self) -> bool
+        ensures { result ≡ limits self }
+    {
+        bounds_limits(1000, self.dmin, self.dmax)
+            & bounds_limits(20160, self.smin, self.smax)
+            & rate_limits(self.supply)
+            & rate_limits(self.demand)
+            & range_limits(60000, self.duration)
+            & range_limits(20160, self.second)
+    }
+
+    #[tactic(auto, unfolding(crate::specs::Limits::order))]
+    fn in_order(self) -> bool
+        ensures { result ≡ order self }
+    {
+        (self.dmin <= self.dmax)
+            & (self.smin <= self.smax)
+            & range_order(self.duration)
+            & range_order(self.second)
+    }
+
+    // The refusal 3, 4 or 24 with which every operation on a specification begins, if it has one.
+    #[tactic(auto, unfolding(crate::specs::Limits::spec_number))]
+    pub fn check(self) -> Result<(), Refusal>
+        ensures { answer_number result ≡ spec_number self }
+    {
+        first_refusal(
+            self.in_limits(),
+            self.in_order(),
+            starts_above(self.second, self.smax),
+        )
+    }
+
+    // Whether the size is in its range, the gap in one of its own.
+    #[tactic(auto, unfolding(crate::specs::Limits::size_allowed))]
+    pub fn allows_size(self, size: u16) -> bool
+        ensures { result ≡ size_allowed self size }
+    {
+        within(self.dmin, self.dmax, size)
+    }
+
+    #[tactic(auto, unfolding(crate::specs::Limits::gap_allowed))]
+    pub fn allows_gap(self, gap: u16) -> bool
+        ensures { result ≡ gap_allowed self gap }
+    {
+        within(self.smin, self.smax, gap) | in_range(self.second, gap)
+    }
+
+    // 25 after those of `check`: with these begin consistency, schedules for k reports and the test, which take one range of gaps.
+    #[tactic(auto, unfolding(crate::specs::Rates::one_range_number), using(crate::proofs::Refusals::handed_number, crate::proofs::GoingOn::goes_on, crate::proofs::GoingOn::second_told))]
+    pub fn check_one_range(self) -> Result<(), Refusal>
+        ensures { answer_number result ≡ one_range_number self }
+    {
+        self.check()?;
+        if self.second.is_some() {
+            return Err(Refusal::TwoRanges);
+        }
+        Ok(())
+    }
+
+    // What schedules for k reports and the test begin with: both rates of an accepted specification with one range of gaps, or refusal 3,
+    // 4, 24, 25 or 5.
+    #[tactic(auto, unfolding(crate::specs::Rates::started, crate::specs::Rates::both_rates), using(crate::proofs::Refusals::handed_on, crate::proofs::GoingOn::goes_on))]
+    pub fn started(self) -> Result<Rates, Refusal>
+        ensures { numbered result ≡ started self }
+    {
+        self.check_one_range()?;
+        both_rates(self.supply, self.demand)
+    }
+
+    // A specification in numbers, as reading its file would give it: accepted, or the refusal 3, 4 or 24.
+    #[tactic(auto, using(crate::proofs::Refusals::handed_on, crate::proofs::GoingOn::goes_on))]
+    pub fn accepted(self) -> Result<Spec, Refusal>
+        ensures { numbered result ≡ accept self }
+    {
+        self.check()?;
+        Ok(self)
     }
 }
 
-// What schedules for k reports and the test begin with: both rates of an accepted specification with one range of gaps, or refusal 3, 4,
-// 24, 25 or 5.
-pub fn started(s: Spec) -> BothRates
-    ensures { result ≡ started s }
-{
-    let n = one_range_number(s);
-    if n != 0 {
-        return BothRates::Refused(n);
-    }
-    both_rates(s)
-}
-
-// The number of a refusal, 0 where both rates are there.
-pub fn rates_number(q: BothRates) -> u32
-    ensures { result ≡ if_rates q (λ both. 0) (λ m. m) }
-{
-    match q {
-        BothRates::Both(_) => 0,
-        BothRates::Refused(n) => n,
-    }
-}
-
-// A specification in numbers, as reading its file would give it: accepted, or the refusal 3, 4 or 24.
-pub fn accepted(s: Spec) -> SpecRead
-    ensures { result ≡ accept s }
-{
-    let n = spec_number(s);
-    if n == 0 {
-        SpecRead::Accepted(s)
-    } else {
-        SpecRead::Refused(n)
-    }
-}
-
-fn wide(x: u8) -> usize
-    ensures { (result ≡ x) × (result < 256) }
-{
-    x as usize
-}
-
-// The number of two bytes, high byte first.
-pub fn two_bytes(high: u8, low: u8) -> u16
-    ensures { result ≡ high * 256 + low }
-{
-    (high as u16) * 256 + (low as u16)
-}
-
-// The 2-byte number at a place.
+// The 2-byte number at a place, high byte first.
 fn word_at(b: &[u8], i: usize) -> u16
     requires { i + 1 < length b.now }
     ensures { result ≡ word b.now i }
 {
-    two_bytes(b[i], b[i + 1])
+    u16::from_be_bytes([b[i], b[i + 1]])
 }
 
-// A rate, a range whose bit of the map is `stands`, 0 or 1.
-fn rate_at(stands: usize, b: &[u8], i: usize) -> Rate
-    requires { i + 4 * stands ≤ length b.now }
-    ensures { result ≡ if_stands stands Absent Present b.now i }
-{
-    if stands == 1 {
-        Rate::Present {
-            records: word_at(b, i),
-            minutes: word_at(b, i + 2),
-        }
-    } else {
-        Rate::Absent
+// The first byte of a file: a bit for each pair that stands in it.
+#[derive(Clone, Copy)]
+struct FileMap(u8);
+
+impl FileMap {
+    // Bits 0 and 1 stand, and neither of bits 6 and 7.
+    fn is_good(self) -> bool
+        ensures { result ≡ map_good self.0 }
+    {
+        (self.0 % 4 == 3) & (self.0 < 64)
+    }
+
+    // How many bytes the supply rate takes, which stands at 9; then where the other pairs that may be absent stand, and where the file
+    // ends.
+    fn demand_at(self) -> usize
+        ensures { result ≡ demand_at self.0 }
+    {
+        9 + 4 * usize::from(self.0 / 4 % 2)
+    }
+
+    fn duration_at(self) -> usize
+        ensures { result ≡ duration_at self.0 }
+    {
+        self.demand_at() + 4 * usize::from(self.0 / 8 % 2)
+    }
+
+    fn second_at(self) -> usize
+        ensures { result ≡ second_at self.0 }
+    {
+        self.duration_at() + 4 * usize::from(self.0 / 16 % 2)
+    }
+
+    fn file_length(self) -> usize
+        ensures { result ≡ file_length self.0 }
+    {
+        self.second_at() + 4 * usize::from(self.0 / 32 % 2)
     }
 }
 
-fn range_at(stands: usize, b: &[u8], i: usize) -> Range
+// The two numbers of a pair at a place, where its bit of the map stands. The bit is 0 or 1, since places are sums of such.
+fn pair_at(stands: u8, b: &[u8], i: usize) -> Option<(u16, u16)>
     requires { i + 4 * stands ≤ length b.now }
-    ensures { result ≡ if_stands stands NoRange RangeOf b.now i }
+    ensures { result ≡ if_stands stands (λ x y. (x, y)) b.now i }
 {
     if stands == 1 {
-        Range::Present {
-            min: word_at(b, i),
-            max: word_at(b, i + 2),
-        }
+        Some((word_at(b, i), word_at(b, i + 2)))
     } else {
-        Range::Absent
+        None
     }
 }
 
-// Where the pairs that may be absent stand, and where the file ends, by its map.
-fn demand_at(m: usize) -> usize
-    requires { m < 256 }
-    ensures { result ≡ demand_at m }
+fn spec_at(map: FileMap, b: &[u8]) -> Spec
+    requires { file_length map.0 ≤ length b.now }
+    ensures { result ≡ spec_at map.0 b.now }
 {
-    9 + 4 * (m / 4 % 2)
-}
-
-fn duration_at(m: usize) -> usize
-    requires { m < 256 }
-    ensures { result ≡ duration_at m }
-{
-    demand_at(m) + 4 * (m / 8 % 2)
-}
-
-fn second_at(m: usize) -> usize
-    requires { m < 256 }
-    ensures { result ≡ second_at m }
-{
-    duration_at(m) + 4 * (m / 16 % 2)
-}
-
-fn file_length(m: usize) -> usize
-    requires { m < 256 }
-    ensures { result ≡ file_length m }
-{
-    second_at(m) + 4 * (m / 32 % 2)
-}
-
-fn spec_at(m: usize, b: &[u8]) -> Spec
-    requires { (m < 256) × (file_length m ≤ length b.now) }
-    ensures { result ≡ spec_at m b.now }
-{
-    let supply = rate_at(m / 4 % 2, b, 9);
-    let demand = rate_at(m / 8 % 2, b, demand_at(m));
-    let duration = range_at(m / 16 % 2, b, duration_at(m));
-    let second = range_at(m / 32 % 2, b, second_at(m));
     Spec {
         dmin: word_at(b, 1),
         dmax: word_at(b, 3),
         smin: word_at(b, 5),
         smax: word_at(b, 7),
-        supply,
-        demand,
-        duration,
-        second,
+        supply: pair_at(map.0 / 4 % 2, b, 9).map(Rate::from),
+        demand: pair_at(map.0 / 8 % 2, b, map.demand_at()).map(Rate::from),
+        duration: pair_at(map.0 / 16 % 2, b, map.duration_at()).map(Range::from),
+        second: pair_at(map.0 / 32 % 2, b, map.second_at()).map(Range::from),
     }
 }
 
 // The specification that the bytes of a file stand for.
-pub fn read_spec(bytes: &[u8]) -> SpecRead
-    ensures { result ≡ read_spec bytes.now }
+pub fn read_spec(bytes: &[u8]) -> Result<Spec, Refusal>
+    ensures { numbered result ≡ read_spec bytes.now }
 {
-    if bytes.len() == 0 {
-        return SpecRead::Refused(refusal::MAP);
+    let Some(first) = bytes.first() else {
+        return Err(Refusal::Map);
+    };
+    let map = FileMap(*first);
+    if !map.is_good() {
+        return Err(Refusal::Map);
     }
-    let m = wide(bytes[0]);
-    if !((m % 4 == 3) & (m < 64)) {
-        return SpecRead::Refused(refusal::MAP);
+    if bytes.len() != map.file_length() {
+        return Err(Refusal::Length);
     }
-    if bytes.len() != file_length(m) {
-        return SpecRead::Refused(refusal::LENGTH);
-    }
-    accepted(spec_at(m, bytes))
-}
-
-// The number of a refusal, 0 where the specification is accepted.
-pub fn read_number(r: SpecRead) -> u32
-    ensures { result ≡ if_read r (λ s. 0) (λ m. m) }
-{
-    match r {
-        SpecRead::Accepted(_) => 0,
-        SpecRead::Refused(n) => n,
-    }
+    spec_at(map, bytes).accepted()
 }

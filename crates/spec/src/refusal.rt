@@ -1,65 +1,63 @@
-// The numbers of the refusals of documents 01 and 02, by name. The definitions in `specs/` give the numbers.
+// The refusals of documents 01 and 02, by name, and their numbers.
+ghost use Rattle.std.specs.Prelude.{◌≡◌};
+ghost use Rattle.spec.specs.Refusals.{number_of, answer_number};
 
-// Reading a specification; LIMITS, ORDER and RANGES begin every operation that is given one.
-pub const MAP: u32 = 1;
+// Why an operation turns something down. Which of several reasons is told is said by each operation's definition, as the first number that
+// applies. 7, which carries a condition, is the crate `consistency`'s. (8 is no longer given, and is not used again.)
+#[derive(Clone, Copy, Debug, PartialEq, Eq)]
+pub enum Refusal {
+    // Reading a specification; Limits, Order and Ranges begin every operation that is given one.
+    Map = 1,
+    Length = 2,
+    Limits = 3,
+    Order = 4,
+    Ranges = 24,
+    // Consistency, schedules for k reports, the test; each begins with TwoRanges, after those above.
+    TwoRanges = 25,
+    RateAbsent = 5,
+    NoSchedule = 6,
+    NotPassed = 9,
+    // The even plan; the reports of a plan.
+    NoEvenPlan = 10,
+    NotProper = 11,
+    // Checking a cycle; reading and writing one begins with Count too.
+    Count = 12,
+    Gap = 13,
+    Size = 14,
+    TooFull = 15,
+    TooThin = 16,
+    // Checking a cycle whose reports may be late, before Count.
+    TooLate = 26,
+    // Reading and writing a cycle file.
+    PairMap = 17,
+    Cut = 18,
+    NotLeftOut = 19,
+    NoRoom = 20,
+    BytesOver = 21,
+    // An offer to a meter, beside Gap, Size and TooFull.
+    NoPlace = 22,
+    // What lies between two minutes of a plan.
+    Backwards = 23,
+    // A week table, and a calendar minute of one.
+    WeekTable = 27,
+    Closed = 28,
+}
 
-pub const LENGTH: u32 = 2;
+impl Refusal {
+    // The number that the documents give it.
+    pub fn number(self) -> u32
+        ensures { result ≡ number_of self }
+    {
+        self as u32
+    }
+}
 
-pub const LIMITS: u32 = 3;
-
-pub const ORDER: u32 = 4;
-
-pub const RANGES: u32 = 24;
-
-// Consistency, schedules for k reports, the test; each begins with TWO_RANGES, after the numbers above. (8 is no longer given, and is not
-// used again.)
-pub const TWO_RANGES: u32 = 25;
-
-pub const RATE_ABSENT: u32 = 5;
-
-pub const NO_SCHEDULE: u32 = 6;
-
-pub const INCONSISTENT: u32 = 7;
-
-pub const NOT_PASSED: u32 = 9;
-
-// The even plan; the reports of a plan.
-pub const NO_EVEN_PLAN: u32 = 10;
-
-pub const NOT_PROPER: u32 = 11;
-
-// Checking a cycle; reading and writing one begins with COUNT too.
-pub const COUNT: u32 = 12;
-
-pub const GAP: u32 = 13;
-
-pub const SIZE: u32 = 14;
-
-pub const TOO_FULL: u32 = 15;
-
-pub const TOO_THIN: u32 = 16;
-
-// Checking a cycle whose reports may be late, before COUNT.
-pub const TOO_LATE: u32 = 26;
-
-// Reading and writing a cycle file.
-pub const PAIR_MAP: u32 = 17;
-
-pub const CUT: u32 = 18;
-
-pub const NOT_LEFT_OUT: u32 = 19;
-
-pub const NO_ROOM: u32 = 20;
-
-pub const BYTES_OVER: u32 = 21;
-
-// An offer to a meter, beside GAP, SIZE and TOO_FULL.
-pub const NO_PLACE: u32 = 22;
-
-// What lies between two minutes of a plan.
-pub const BACKWARDS: u32 = 23;
-
-// A week table, and a calendar minute of one.
-pub const WEEK_TABLE: u32 = 27;
-
-pub const CLOSED: u32 = 28;
+// 0, or the number of the refusal: what C is told.
+pub fn answer_number<T: Drop>(answer: Result<T, Refusal>) -> u32
+    ensures { result ≡ answer_number answer }
+{
+    match answer {
+        Ok(_) => 0,
+        Err(refusal) => refusal.number(),
+    }
+}
