@@ -5,11 +5,11 @@ use native.Mathlib.Omega.{arith}
 use mathlib.Core.Path.{◌≡◌, sym, ◌∙◌, ap}
 use mathlib.Core.Logic.{◌↔◌, ⊎_elim}
 use borrow.Author.Tests.{le-leb, lt-leb}
+use Rattle.std.specs.Prelude.{Ok, Err}
 use Rattle.numbers.proofs.Cases.{lt_cases}
 use Rattle.spec.specs.declared.Spec.{Spec}
 use Rattle.spec.specs.Limits.{spec_number, IsAccepted}
 use Rattle.spec.proofs.GoingOn.{none_or, goes_on, stops, went_on, number_few}
-use Rattle.lateness.specs.declared.Planned.TheVariants.{Against, Refused}
 use Rattle.lateness.specs.Lateness.{lateness_number}
 use Rattle.lateness.specs.PlannedSpec.{planned_spec, planned_for}
 
@@ -48,28 +48,28 @@ module _ (spec : Spec) (lateness : ℕ) where
   )
 
   -- what is handed on, and back from it
-  pub for_refused : ¬ IsAccepted spec → planned_for spec lateness ≡ Refused (spec_number spec)
+  pub for_refused : ¬ IsAccepted spec → planned_for spec lateness ≡ Err (spec_number spec)
   unfolding planned_for
-  for_refused h = stops (lateness_number spec lateness) _ Refused (λ e. h (begins_iff.0 e).0) ∙ ap Refused (begins_refused h)
+  for_refused h = stops (lateness_number spec lateness) _ Err (λ e. h (begins_iff.0 e).0) ∙ ap Err (begins_refused h)
 
-  pub for_26 : IsAccepted spec → 1440 < lateness → planned_for spec lateness ≡ Refused 26
+  pub for_26 : IsAccepted spec → 1440 < lateness → planned_for spec lateness ≡ Err 26
   unfolding planned_for
-  for_26 accepted h = let n = begins_26 accepted h in stops (lateness_number spec lateness) _ Refused (λ e. omega arith) ∙ ap Refused n
+  for_26 accepted h = let n = begins_26 accepted h in stops (lateness_number spec lateness) _ Err (λ e. omega arith) ∙ ap Err n
 
-  pub for_planned : IsAccepted spec → lateness ≤ 1440 → planned_for spec lateness ≡ Against (planned_spec spec lateness)
+  pub for_planned : IsAccepted spec → lateness ≤ 1440 → planned_for spec lateness ≡ Ok (planned_spec spec lateness)
   unfolding planned_for
-  for_planned accepted h = goes_on (lateness_number spec lateness) _ Refused (begins_0 accepted h)
+  for_planned accepted h = goes_on (lateness_number spec lateness) _ Err (begins_0 accepted h)
 
-  pub was_planned : (s : Spec) → planned_for spec lateness ≡ Against s → (lateness_number spec lateness ≡ 0) × (planned_spec spec lateness ≡ s)
+  pub was_planned : (s : Spec) → planned_for spec lateness ≡ Ok s → (lateness_number spec lateness ≡ 0) × (planned_spec spec lateness ≡ s)
   unfolding planned_for
   was_planned s e =
-      let k = went_on (lateness_number spec lateness) (Against (planned_spec spec lateness)) Refused (Against s) (λ some h. absurd (let z : ◌≡◌ {A = ℕ} 0 1 = cc in omega arith)) e in
+      let k = went_on (lateness_number spec lateness) (Ok (planned_spec spec lateness)) Err (Ok s) (λ some h. absurd (let z : ◌≡◌ {A = ℕ} 0 1 = cc in omega arith)) e in
       (k.0, let h = k.1 in cc)
 
-  pub was_refused : (n : ℕ) → planned_for spec lateness ≡ Refused n → (¬ (lateness_number spec lateness ≡ 0)) × (lateness_number spec lateness ≡ n)
+  pub was_refused : (n : ℕ) → planned_for spec lateness ≡ Err n → (¬ (lateness_number spec lateness ≡ 0)) × (lateness_number spec lateness ≡ n)
   unfolding planned_for
   was_refused n e =
       ⊎_elim
-      (λ z. absurd (let h = sym (goes_on (lateness_number spec lateness) (Against (planned_spec spec lateness)) Refused z) ∙ e in let y : ◌≡◌ {A = ℕ} 0 1 = cc in omega arith))
-      (λ z. (z, let h = sym (stops (lateness_number spec lateness) (Against (planned_spec spec lateness)) Refused z) ∙ e in cc))
+      (λ z. absurd (let h = sym (goes_on (lateness_number spec lateness) (Ok (planned_spec spec lateness)) Err z) ∙ e in let y : ◌≡◌ {A = ℕ} 0 1 = cc in omega arith))
+      (λ z. (z, let h = sym (stops (lateness_number spec lateness) (Ok (planned_spec spec lateness)) Err z) ∙ e in cc))
       (none_or (lateness_number spec lateness))

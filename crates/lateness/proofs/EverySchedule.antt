@@ -7,9 +7,9 @@ use native.Mathlib.Nat.{le_trans}
 use mathlib.Core.Path.{◌≡◌, sym, ◌∙◌}
 use mathlib.Core.Logic.{◌↔◌}
 use mathlib.Core.Bool.{true, false, and-eq-true_iff}
+use Rattle.std.specs.Prelude.{Option, None, Some}
 use Rattle.numbers.proofs.All.{all_right, some_fails}
 use Rattle.spec.specs.declared.Rate.{Rate}
-use Rattle.spec.specs.declared.Rate.TheVariants.{Absent, Present}
 use Rattle.spec.specs.declared.Spec.{Spec}
 use Rattle.spec.specs.Limits.{rate_limits, IsAccepted, size_allowed, gap_allowed}
 use Rattle.spec.proofs.Facts.{leb_iff, facts, gap_allowed_pos}
@@ -55,43 +55,43 @@ module _ (s : Schedule) (lateness : ℕ) where
       omega (arith, delayed_gap s lateness (λ i. 0) (on_time lateness) i)
 
   module _ (later : (i : ℕ) → 1 ≤ s.gap i) where
-    pub supply_holds : (rate : Rate) → SupplyKept (late_supply lateness rate) (stretch s) → EveryDelay lateness s (λ t. SupplyKept rate (timed_stretch t))
+    pub supply_holds : (rate : Option Rate) → SupplyKept (late_supply lateness rate) (stretch s) → EveryDelay lateness s (λ t. SupplyKept rate (timed_stretch t))
     unfolding late_supply
-    supply_holds Absent kept delay h = tt
-    supply_holds (Present b r) kept delay h = λ a. le_trans (delayed_most s lateness later delay h a r) (kept (a - lateness))
+    supply_holds None kept delay h = tt
+    supply_holds (Some x) kept delay h = λ a. le_trans (delayed_most s lateness later delay h a x.minutes) (kept (a - lateness))
 
-    pub supply_breaks : (rate : Rate) → rate_limits rate ≡ true → TooFull (late_supply lateness rate) (stretch s)
+    pub supply_breaks : (rate : Option Rate) → rate_limits rate ≡ true → TooFull (late_supply lateness rate) (stretch s)
         → SomeDelay lateness s (λ t. TooFull rate (timed_stretch t))
     unfolding late_supply rate_limits
-    supply_breaks Absent limits full = absurd full
-    supply_breaks (Present b r) limits full =
+    supply_breaks None limits full = absurd full
+    supply_breaks (Some x) limits full =
         let a = full.0 in
         let k = simp (and-eq-true_iff, leb_iff) at limits in
-        (full_delay s lateness a, (full_delay_right s lateness a, (a + lateness, omega (arith, full.1, full_delay_lem s lateness later a r (omega arith)))))
+        (full_delay s lateness a, (full_delay_right s lateness a, (a + lateness, omega (arith, full.1, full_delay_lem s lateness later a x.minutes (omega arith)))))
 
-    supply_needed : (rate : Rate) → rate_limits rate ≡ true → EveryDelay lateness s (λ t. SupplyKept rate (timed_stretch t)) → SupplyKept (late_supply lateness rate) (stretch s)
+    supply_needed : (rate : Option Rate) → rate_limits rate ≡ true → EveryDelay lateness s (λ t. SupplyKept rate (timed_stretch t)) → SupplyKept (late_supply lateness rate) (stretch s)
     unfolding late_supply rate_limits
-    supply_needed Absent limits every = tt
-    supply_needed (Present b r) limits every = λ a.
+    supply_needed None limits every = tt
+    supply_needed (Some x) limits every = λ a.
         let k = simp (and-eq-true_iff, leb_iff) at limits in
-        le_trans (full_delay_lem s lateness later a r (omega arith)) (every (full_delay s lateness a) (full_delay_right s lateness a) (a + lateness))
+        le_trans (full_delay_lem s lateness later a x.minutes (omega arith)) (every (full_delay s lateness a) (full_delay_right s lateness a) (a + lateness))
 
-    pub demand_holds : (rate : Rate) → DemandMet (late_demand lateness rate) (stretch s) → EveryDelay lateness s (λ t. DemandMet rate (timed_stretch t))
+    pub demand_holds : (rate : Option Rate) → DemandMet (late_demand lateness rate) (stretch s) → EveryDelay lateness s (λ t. DemandMet rate (timed_stretch t))
     unfolding late_demand
-    demand_holds Absent met delay h = tt
-    demand_holds (Present l p) met delay h = λ a. le_trans (met a) (delayed_least s lateness later delay h a p)
+    demand_holds None met delay h = tt
+    demand_holds (Some x) met delay h = λ a. le_trans (met a) (delayed_least s lateness later delay h a x.minutes)
 
-    pub demand_breaks : (rate : Rate) → TooThin (late_demand lateness rate) (stretch s) → SomeDelay lateness s (λ t. TooThin rate (timed_stretch t))
+    pub demand_breaks : (rate : Option Rate) → TooThin (late_demand lateness rate) (stretch s) → SomeDelay lateness s (λ t. TooThin rate (timed_stretch t))
     unfolding late_demand
-    demand_breaks Absent thin = absurd thin
-    demand_breaks (Present l p) thin =
+    demand_breaks None thin = absurd thin
+    demand_breaks (Some x) thin =
         let a = thin.0 in
-        (thin_delay s lateness a p, (thin_delay_right s lateness a p, (a, omega (arith, thin.1, thin_delay_lem s lateness later a p))))
+        (thin_delay s lateness a x.minutes, (thin_delay_right s lateness a x.minutes, (a, omega (arith, thin.1, thin_delay_lem s lateness later a x.minutes))))
 
-    demand_needed : (rate : Rate) → EveryDelay lateness s (λ t. DemandMet rate (timed_stretch t)) → DemandMet (late_demand lateness rate) (stretch s)
+    demand_needed : (rate : Option Rate) → EveryDelay lateness s (λ t. DemandMet rate (timed_stretch t)) → DemandMet (late_demand lateness rate) (stretch s)
     unfolding late_demand
-    demand_needed Absent every = tt
-    demand_needed (Present l p) every = λ a. le_trans (every (thin_delay s lateness a p) (thin_delay_right s lateness a p) a) (thin_delay_lem s lateness later a p)
+    demand_needed None every = tt
+    demand_needed (Some x) every = λ a. le_trans (every (thin_delay s lateness a x.minutes) (thin_delay_right s lateness a x.minutes) a) (thin_delay_lem s lateness later a x.minutes)
 
 -- a schedule obeys however its reports are delayed exactly when it obeys, on time, what planned minutes must meet
 pub late_planned : (spec : Spec) (lateness : ℕ) (s : Schedule) → IsAccepted spec → EveryDelay lateness s (TimedObeys spec) ↔ Obeys (planned_spec spec lateness) s

@@ -7,25 +7,25 @@ use mathlib.Core.Path.{◌≡◌, refl, sym, ◌∙◌}
 use mathlib.Core.Logic.{◌↔◌, ◌⊎◌, inl, inr, ⊎_elim}
 use mathlib.Core.Bool.{true, and-eq-true_iff}
 use borrow.Author.Tests.{eq-eqb, ne_eqb}
+use Rattle.std.specs.Prelude.{Option, None, Some}
 use Rattle.numbers.proofs.All.{all_right, same_test}
 use Rattle.numbers.proofs.Cases.{lt_cases}
 use Rattle.spec.specs.declared.Rate.{Rate}
-use Rattle.spec.specs.declared.Rate.TheVariants.{Absent, Present}
 use Rattle.spec.specs.declared.Range.{Range}
-use Rattle.spec.specs.declared.Range.TheVariants.{Absent as NoRange, Present as RangeOf}
 use Rattle.spec.specs.declared.Spec.{Spec}
-use Rattle.spec.specs.Limits.{rate_limits, range_limits, in_range, IsAccepted, gap_allowed}
-use Rattle.spec.proofs.Facts.{leb_iff, facts, range_limits_iff, second_range, gap_allowed_iff, in_none, in_bounds}
+use Rattle.spec.specs.Limits.{rate_of, range_of, rate_limits, range_limits, in_range, IsAccepted, gap_allowed}
+use Rattle.spec.proofs.Facts.{leb_iff, facts, second_range, gap_allowed_iff, in_none, in_bounds}
 use Rattle.lateness.specs.Lateness.{late_gap_allowed, late_supply, late_demand}
 use Rattle.lateness.specs.PlannedSpec.{joined_end, shortened, planned_spec}
 
 -- a rate's minutes and a range's bounds, with J added, fit 16 bits
-pub minutes_fit : (rate : Rate) {b m lateness : ℕ} → rate ≡ Present b m → rate_limits rate ≡ true → lateness ≤ 1440 → m + lateness < 2 ^ 16
+pub minutes_fit : (rate : Option Rate) (x : Rate) {lateness : ℕ} → rate ≡ Some x → rate_limits rate ≡ true → lateness ≤ 1440 → x.minutes + lateness < 2 ^ 16
 unfolding rate_limits
-minutes_fit rate e h few = let k = simp (and-eq-true_iff, leb_iff) at (rw e at h) in omega arith
+minutes_fit rate x e h few = let k = simp (and-eq-true_iff, leb_iff) at (rw e at h) in omega arith
 
-pub bound_fits : (range : Range) {lo hi lateness : ℕ} → range ≡ RangeOf lo hi → range_limits 20160 range ≡ true → lateness ≤ 1440 → lo + lateness < 2 ^ 16
-bound_fits range {lo} {hi} e h few = omega (arith, ((range_limits_iff 20160 lo hi).0 (rw e at h)).1)
+pub bound_fits : (range : Option Range) (x : Range) {lateness : ℕ} → range ≡ Some x → range_limits 20160 range ≡ true → lateness ≤ 1440 → x.min + lateness < 2 ^ 16
+unfolding range_limits
+bound_fits range x e h few = let k = simp (and-eq-true_iff, leb_iff) at (rw e at h) in omega arith
 
 -- x is in a to b
 abbrev pub In : ℕ → ℕ → ℕ → Type 0
@@ -33,24 +33,24 @@ In a b x = (a ≤ x) × (x ≤ b)
 
 -- ranges that touch join, and others do not
 module _ (smax lo hi : ℕ) where
-  pub touching : lo ≡ smax + 1 → joined_end smax (RangeOf lo hi) ≡ hi
+  pub touching : lo ≡ smax + 1 → joined_end smax (Some (range_of lo hi)) ≡ hi
   unfolding joined_end
   touching e = rw (eq-eqb lo (smax + 1) e)
 
-  pub apart : ¬ (lo ≡ smax + 1) → joined_end smax (RangeOf lo hi) ≡ smax
+  pub apart : ¬ (lo ≡ smax + 1) → joined_end smax (Some (range_of lo hi)) ≡ smax
   unfolding joined_end
   apart h = rw (ne_eqb lo (smax + 1) h)
 
 -- The first range is a to b, the second c to d, above it. Where they touch the first ends with d; otherwise b + 1 is in neither.
 module _ (a b c d : ℕ) (low : 1 ≤ a) (above : b < c) (second : c ≤ d) where
-  end_cases : ((c ≡ b + 1) × (joined_end b (RangeOf c d) ≡ d)) ⊎ ((b + 1 < c) × (joined_end b (RangeOf c d) ≡ b))
+  end_cases : ((c ≡ b + 1) × (joined_end b (Some (range_of c d)) ≡ d)) ⊎ ((b + 1 < c) × (joined_end b (Some (range_of c d)) ≡ b))
   end_cases = ⊎_elim (λ h. inr (h, apart b c d (λ e. omega arith))) (λ h. let e : c ≡ b + 1 = omega arith in inl (e, touching b c d e)) (lt_cases (b + 1) c)
 
   module _ (lo hi : ℕ) (some : lo ≤ hi) where
-    pub inside : ((x : ℕ) → In lo hi x → In a b x ⊎ In c d x) → ((a ≤ lo) × (hi ≤ joined_end b (RangeOf c d))) ⊎ ((c ≤ lo) × (hi ≤ d))
+    pub inside : ((x : ℕ) → In lo hi x → In a b x ⊎ In c d x) → ((a ≤ lo) × (hi ≤ joined_end b (Some (range_of c d)))) ⊎ ((c ≤ lo) × (hi ≤ d))
     inside h = ⊎_elim first (λ p. inr (p.0, ⊎_elim (λ q. absurd (omega arith)) (λ q. q.1) (h hi (some, omega arith)))) (h lo (omega arith, some))
       where
-        first : In a b lo → ((a ≤ lo) × (hi ≤ joined_end b (RangeOf c d))) ⊎ ((c ≤ lo) × (hi ≤ d))
+        first : In a b lo → ((a ≤ lo) × (hi ≤ joined_end b (Some (range_of c d)))) ⊎ ((c ≤ lo) × (hi ≤ d))
         first p =
             ⊎_elim
             (λ joined. inl (p.0, ⊎_elim (λ q. omega arith) (λ q. omega arith) (h hi (some, omega arith))))
@@ -64,7 +64,7 @@ module _ (a b c d : ℕ) (low : 1 ≤ a) (above : b < c) (second : c ≤ d) wher
             ))
             end_cases
 
-    pub covers : ((a ≤ lo) × (hi ≤ joined_end b (RangeOf c d))) ⊎ ((c ≤ lo) × (hi ≤ d)) → (x : ℕ) → In lo hi x → In a b x ⊎ In c d x
+    pub covers : ((a ≤ lo) × (hi ≤ joined_end b (Some (range_of c d)))) ⊎ ((c ≤ lo) × (hi ≤ d)) → (x : ℕ) → In lo hi x → In a b x ⊎ In c d x
     covers h x q =
         ⊎_elim
         (λ p.
@@ -89,13 +89,13 @@ near_iff spec lateness g =
 
 module _ (spec : Spec) (accepted : IsAccepted spec) (lateness g : ℕ) where
   -- what it is for a gap to be allowed of planned reports, and for all that it can become to be allowed, by the second range
-  abbrev Planned : Range → Type 0
+  abbrev Planned : Option Range → Type 0
   Planned x = In (spec.smin + lateness) (joined_end spec.smax x - lateness) g ⊎ (in_range (shortened lateness x) g ≡ true)
 
-  abbrev Arrived : Range → Type 0
+  abbrev Arrived : Option Range → Type 0
   Arrived x = (y : ℕ) → Near lateness g y → In spec.smin spec.smax y ⊎ (in_range x y ≡ true)
 
-  no_second : Planned NoRange ↔ Arrived NoRange
+  no_second : Planned None ↔ Arrived None
   unfolding shortened joined_end
   no_second =
       let f = facts spec accepted in (
@@ -105,14 +105,14 @@ module _ (spec : Spec) (accepted : IsAccepted spec) (lateness g : ℕ) where
             inl (omega (arith, f.gap_low, first (g - lateness) (omega arith, omega arith)), omega (arith, first (g + lateness) (omega arith, omega arith))),
       )
 
-  both_ranges : (c d : ℕ) → spec.second ≡ RangeOf c d → Planned (RangeOf c d) ↔ Arrived (RangeOf c d)
+  both_ranges : (c d : ℕ) → spec.second ≡ Some (range_of c d) → Planned (Some (range_of c d)) ↔ Arrived (Some (range_of c d))
   unfolding shortened
   both_ranges c d e =
       let f = facts spec accepted in
       let two = second_range spec c d accepted e in
       let lo = g - lateness in
       let hi = g + lateness in
-      let end = joined_end spec.smax (RangeOf c d) in
+      let end = joined_end spec.smax (Some (range_of c d)) in
       let some : lo ≤ hi = omega arith in (
         λ h y q.
             let within : ((spec.smin ≤ lo) × (hi ≤ end)) ⊎ ((c ≤ lo) × (hi ≤ d)) =
@@ -129,9 +129,9 @@ module _ (spec : Spec) (accepted : IsAccepted spec) (lateness g : ℕ) where
             (inside spec.smin spec.smax c d f.gap_low two.above two.order lo hi some each),
       )
 
-  by_range : (x : Range) → spec.second ≡ x → Planned x ↔ Arrived x
-  by_range NoRange e = no_second
-  by_range (RangeOf c d) e = both_ranges c d e
+  by_range : (x : Option Range) → spec.second ≡ x → Planned x ↔ Arrived x
+  by_range None e = no_second
+  by_range (Some x) e = both_ranges x.min x.max e
 
   pub planned_gap : late_gap_allowed spec lateness g ≡ gap_allowed (planned_spec spec lateness) g
   unfolding planned_spec
@@ -160,15 +160,15 @@ gap_on_time spec g =
       λ e. near.1 (λ x q. let z : x ≡ g = omega arith in rw z e),
     )
 
-same_minutes : (records m n : ℕ) → m ≡ n → Present records m ≡ Present records n
+same_minutes : (records m n : ℕ) → m ≡ n → Some (rate_of records m) ≡ Some (rate_of records n)
 same_minutes records m n e = rw e
 
-pub supply_on_time : (rate : Rate) → late_supply 0 rate ≡ rate
+pub supply_on_time : (rate : Option Rate) → late_supply 0 rate ≡ rate
 unfolding late_supply
-supply_on_time Absent = refl
-supply_on_time (Present b r) = same_minutes b _ r (omega arith)
+supply_on_time None = refl
+supply_on_time (Some x) = same_minutes x.records _ x.minutes (omega arith)
 
-pub demand_on_time : (rate : Rate) → late_demand 0 rate ≡ rate
+pub demand_on_time : (rate : Option Rate) → late_demand 0 rate ≡ rate
 unfolding late_demand
-demand_on_time Absent = refl
-demand_on_time (Present l p) = same_minutes l _ p (omega arith)
+demand_on_time None = refl
+demand_on_time (Some x) = same_minutes x.records _ x.minutes (omega arith)

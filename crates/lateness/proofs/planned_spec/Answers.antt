@@ -1,28 +1,18 @@
--- `planned_spec` meets its contract, field by field; the numbers of an accepted specification leave room for J.
+-- `planned_spec` meets its contract: the numbers of an accepted specification leave room for J.
 use native.Mathlib.Omega.{arith}
+use Rattle.std.proofs.iter.Serving.{serving}
 use Rattle.spec.proofs.Facts.{facts}
-use Rattle.lateness.specs.PlannedSpec.{planned_spec}
+use Rattle.lateness.proofs.PlannedSpec.{minutes_fit, bound_fits}
 use Rattle.lateness.proofs.planned_spec.Goals as goal
 
 pub overflow_add-result : goal.overflow_add-result
-overflow_add-result c = let f = facts _ c.requires.0 in record { fits = omega (arith, f.gaps, f.gap_high, c.requires.1) }
+overflow_add-result c = let f = facts _ c.args.accepted.accepted in record { fits = omega (arith, f.gaps, f.gap_high) }
 
 pub joined_end-requires : goal.joined_end-requires
-joined_end-requires c = (facts _ c.requires.0).gap_high
+joined_end-requires c = (facts _ c.args.accepted.accepted).gap_high
 
-pub late_supply-requires : goal.late_supply-requires
-late_supply-requires c = ((facts _ c.requires.0).supply, c.requires.1)
+pub map-requires : goal.map-requires
+map-requires c = λ x e. let h = minutes_fit _ x e (facts _ c.args.accepted.accepted).supply c.requires in grind (arith, serving)
 
-pub shortened-requires : goal.shortened-requires
-shortened-requires c = ((facts _ c.requires.0).second, c.requires.1)
-
-pub returns : goal.returns
-unfolding planned_spec
-returns c =
-    rw (
-      c.less.ensures,
-      c.joined_end.ensures,
-      c.late_supply.ensures,
-      c.late_demand.ensures,
-      c.shortened.ensures,
-    )
+pub map-requires-3 : goal.map-requires-3
+map-requires-3 c = λ x e. let h = bound_fits _ x e (facts _ c.args.accepted.accepted).second c.requires in grind (arith, serving)
