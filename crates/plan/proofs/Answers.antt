@@ -1,64 +1,52 @@
--- The cases of `report_of`, of `count_of` and of the records of the first n reports, by what the code has found.
-use Prim.Native.Nat.{ℕ, ◌*◌, ◌/◌}
-use native.Mathlib.Omega.{arith}
+-- What is told of a proper plan, and what each kind's sizes add up to, by what the code has found.
+use Prim.Native.Nat.{ℕ}
 use mathlib.Core.Path.{◌≡◌, refl}
 use mathlib.Core.Bool.{Bool, true, false, cond}
-use Rattle.schedule.specs.Schedules.{sum, minute}
-use Rattle.schedule.proofs.Sums.{sum_const}
+use Rattle.std.specs.Prelude.{Result, Ok, Err, IsErrAnd}
+use Rattle.std.proofs.lemmas.Result.{err_from_is_err_and}
+use Rattle.spec.specs.declared.refusal.Refusal.{Refusal}
+use Rattle.spec.specs.declared.refusal.Refusal.TheVariants.{NotProper}
+use Rattle.spec.specs.Refusals.{numbered}
+use Rattle.schedule.specs.Schedules.{sum}
 use Rattle.plan.specs.declared.Kind.TheVariants.{WellFormed, Even}
 use Rattle.plan.specs.declared.Plan.{Plan}
-use Rattle.plan.specs.declared.Reported.TheVariants.{At, Refused}
-use Rattle.plan.specs.declared.Counted.TheVariants.{Count, Refused as NotCounted}
-use Rattle.plan.specs.Plans.{proper, run, kind_run, well_gap, well_size, even_first, even_size}
-use Rattle.plan.specs.Reports.{report_of, count_of}
+use Rattle.plan.specs.Plans.{proper, run, kind_run, well_size, even_first, even_size}
+use Rattle.plan.specs.Reports.{if_proper}
 use Rattle.plan.proofs.Proper.{proper_bounds}
 use Rattle.plan.proofs.EvenSizes.{even_sum}
 
-module _ (p : Plan) (i : ℕ) where
-  pub not_proper : proper p ≡ false → Refused 11 ≡ report_of p i
-  unfolding report_of
-  not_proper e = rw e
+module _ {A : Type 0} (p : Plan) where
+  pub told : {x y : A} → proper p ≡ true → x ≡ y → Ok x ≡ if_proper p y
+  unfolding if_proper
+  told ok e = rw (ok, e)
 
-  module _ (ok : proper p ≡ true) {m d : ℕ} where
-    pub well_reported : p.kind ≡ WellFormed → m ≡ sum (well_gap p.count p.period) i → d ≡ well_size p.count p.total i → At m d ≡ report_of p i
-    unfolding report_of run kind_run minute
-    well_reported k em ed = rw (ok, em, ed, k)
+  -- `?` hands on the refusal
+  pub not_proper : (x : Result A Refusal) (y : A) {r : Refusal} → (r ≡ NotProper) × (proper p ≡ false) → IsErrAnd x (λ e. e ≡ r) → numbered x ≡ if_proper p y
+  unfolding if_proper
+  not_proper x y refused is = let e = err_from_is_err_and x is in rw (e.1, e.2, refused.0, refused.1)
 
-    pub even_reported : p.kind ≡ Even → m ≡ i * (p.period / p.count) → d ≡ even_size p.count p.total i → At m d ≡ report_of p i
-    unfolding report_of run kind_run minute
-    even_reported k em ed = rw (ok, em, ed, k, sum_const (p.period / p.count) i)
-
-module _ (p : Plan) (n : ℕ) where
-  pub not_counted : proper p ≡ false → NotCounted 11 ≡ count_of p n
-  unfolding count_of
-  not_counted e = rw e
-
-  pub counted : proper p ≡ true → {x : ℕ} → x ≡ n → Count x ≡ count_of p n
-  unfolding count_of
-  counted ok e = rw (ok, e)
-
-  -- and back from the answer
-  pub count_refused : {number : ℕ} → count_of p n ≡ NotCounted number → proper p ≡ false
-  unfolding count_of
-  count_refused {number} = by (proper p) refl
+  -- and back from what is told
+  pub proper_told : (x : A) {y : A} → if_proper p x ≡ Ok y → (proper p ≡ true) × (x ≡ y)
+  unfolding if_proper
+  proper_told x {y} = by (proper p) refl
     where
-      by : (b : Bool) → proper p ≡ b → cond b (Count n) (NotCounted 11) ≡ NotCounted number → proper p ≡ false
-      by true ok e = absurd (let z : ◌≡◌ {A = ℕ} 0 1 = cc in omega arith)
-      by false ok e = ok
-
-  pub count_told : {x : ℕ} → count_of p n ≡ Count x → (proper p ≡ true) × (x ≡ n)
-  unfolding count_of
-  count_told {x} = by (proper p) refl
-    where
-      by : (b : Bool) → proper p ≡ b → cond b (Count n) (NotCounted 11) ≡ Count x → (proper p ≡ true) × (x ≡ n)
+      by : (b : Bool) → proper p ≡ b → cond {A = Result A ℕ} b (Ok x) (Err 11) ≡ Ok y → (proper p ≡ true) × (x ≡ y)
       by true ok e = (ok, cc)
-      by false ok e = absurd (let z : ◌≡◌ {A = ℕ} 0 1 = cc in omega arith)
+      by false ok e = cc
 
-module _ (p : Plan) (n : ℕ) {x : ℕ} where
-  pub well_held : p.kind ≡ WellFormed → x ≡ sum (well_size p.count p.total) n → x ≡ sum (run p).size n
+module _ (p : Plan) {x : ℕ} where
+  pub well_sized : (i : ℕ) → p.kind ≡ WellFormed → x ≡ well_size p.count p.total i → x ≡ (run p).size i
   unfolding run kind_run
-  well_held k e = rw (k, e)
+  well_sized i k e = rw (k, e)
 
-  pub even_held : proper p ≡ true → p.kind ≡ Even → x ≡ even_first p.count p.total n → x ≡ sum (run p).size n
+  pub even_sized : (i : ℕ) → p.kind ≡ Even → x ≡ even_size p.count p.total i → x ≡ (run p).size i
   unfolding run kind_run
-  even_held ok k e = rw (k, e, even_sum p.count p.total (proper_bounds p ok).some n)
+  even_sized i k e = rw (k, e)
+
+  pub well_held : (n : ℕ) → p.kind ≡ WellFormed → x ≡ sum (well_size p.count p.total) n → x ≡ sum (run p).size n
+  unfolding run kind_run
+  well_held n k e = rw (k, e)
+
+  pub even_held : (n : ℕ) → proper p ≡ true → p.kind ≡ Even → x ≡ even_first p.count p.total n → x ≡ sum (run p).size n
+  unfolding run kind_run
+  even_held n ok k e = rw (k, e, even_sum p.count p.total (proper_bounds p ok).some n)

@@ -24,8 +24,8 @@ module _ (p : Plan) (ok : proper p ≡ true) where
   unfolding minute within
   run_minute i = run_gaps p ok i ∙ gap_sum p.count known.some p.period i
 
-  pub reports_closed : (m : ℕ) → reports_from (run p) 0 m ≡ m / p.period * p.count + within_before p.count p.period (m % p.period)
-  reports_closed m =
+  reports_in : (m : ℕ) → reports_from (run p) 0 m ≡ m / p.period * p.count + within_before p.count p.period (m % p.period)
+  reports_in m =
       reports_first (run p) (run_later p ok) m
       ∙ before_is (run p) (run_later p ok) m _
       (λ i.
@@ -34,6 +34,9 @@ module _ (p : Plan) (ok : proper p ≡ true) where
       let x = div-add-mod' m p.period in
       let y = div-add-mod' i p.count in
       (λ h. let z = l.0 (omega arith) in omega arith, λ h. let z = l.1 (omega arith) in omega arith))
+
+  pub reports_closed : {k π : ℕ} → k ≡ p.count → π ≡ p.period → (m : ℕ) → reports_from (run p) 0 m ≡ m / π * k + within_before k π (m % π)
+  reports_closed ek eπ m = rw (ek, eπ) (reports_in m)
 
   -- no two are at one minute
   pub reports_few : (m : ℕ) → reports_from (run p) 0 m ≤ m

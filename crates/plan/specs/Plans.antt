@@ -1,6 +1,6 @@
 -- Document 01, "Schedules from document 000": plans, when a plan is proper, and the sizes and gaps of both kinds (the even kind's sizes:
 -- document 02, Req 02); "Cycles", third paragraph: the endless run of a plan.
-use Rattle.std.specs.Prelude.{ℕ, ◌+◌, ◌-◌, ◌*◌, ◌/◌, ◌%◌, Bool, true, cond, ◌&&◌, List, ◌∷◌, leb, ltb, eqb}
+use Rattle.std.specs.Prelude.{ℕ, ◌+◌, ◌-◌, ◌*◌, ◌/◌, ◌%◌, Bool, true, cond, ◌&&◌, List, ◌∷◌, leb, ltb, eqb, Result, Ok, Err}
 use Rattle.numbers.specs.Numbers.{ceil}
 use Rattle.schedule.specs.Schedules.{Schedule}
 use Rattle.plan.specs.declared.Kind.{Kind}
@@ -11,6 +11,10 @@ use Rattle.plan.specs.declared.Plan.{Plan}
 abbrev pub kind_number : Kind → ℕ
 kind_number WellFormed = 0
 kind_number Even = 1
+
+-- the kind that a number names: 0 the well-formed kind, 1 the even kind; no other number names one, and of no kind is there a proper plan
+abbrev pub kind_named : ℕ → Result Kind ℕ
+kind_named n = cond (eqb n 0) (Ok WellFormed) (cond (eqb n 1) (Ok Even) (Err 11))
 
 -- "A plan is a kind, k reports in a period, the period's length π in minutes and its total δ in records": those numbers, before others
 abbrev pub plan_numbers : Plan → List ℕ → List ℕ

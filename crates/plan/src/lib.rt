@@ -5,22 +5,42 @@
 
 pub mod moments;
 
-ghost use Rattle.std.specs.Prelude.{◌≡◌, true, ◌+◌, ◌-◌, ◌*◌, ◌≤◌, ◌<◌, ◌^◌};
-ghost use Rattle.schedule.specs.Schedules.{sum};
-ghost use Rattle.schedule.specs.Moments.{reports_from};
-ghost use Rattle.plan.specs.Plans.{proper, run, well_gap, well_size, even_first, even_size};
-ghost use Rattle.plan.specs.Reports.{report_of, count_of};
+ghost use Rattle.std.specs.Prelude.{◌≡◌, true, false, ◌+◌, ◌*◌, ◌≤◌, ◌<◌, ◌^◌, IfOk, IfErr};
+ghost use Rattle.spec.specs.Refusals.{numbered};
+ghost use Rattle.spec.specs.declared.refusal.Refusal.TheVariants.{NotProper};
+ghost use Rattle.schedule.specs.Schedules.{sum, minute};
+ghost use Rattle.plan.specs.Plans.{kind_fits, proper, run, well_size, even_first};
+ghost use Rattle.plan.specs.Reports.{report_at, report_of, if_proper};
 
-use spec::refusal;
+use spec::refusal::Refusal;
 
-#[derive(Clone, Copy)]
+#[derive(Clone, Copy, Debug, PartialEq, Eq)]
 pub enum Kind {
     WellFormed,
     Even,
 }
 
+// The kind that C names by a number, or refusal 11.
+impl TryFrom<u32> for Kind {
+    type Error = Refusal;
+
+    ghost use Rattle.std.specs.Prelude.{◌≡◌};
+    ghost use Rattle.spec.specs.Refusals.{numbered};
+    ghost use Rattle.plan.specs.Plans.{kind_named};
+
+    ghost try_from_gives = { λ number kind. numbered kind ≡ kind_named number };
+
+    fn try_from(number: u32) -> Result<Kind, Refusal> {
+        match number {
+            0 => Ok(Kind::WellFormed),
+            1 => Ok(Kind::Even),
+            _ => Err(Refusal::NotProper),
+        }
+    }
+}
+
 // `count` reports (k) in a period of `period` minutes (π) with `total` records (δ).
-#[derive(Clone, Copy)]
+#[derive(Clone, Copy, Debug, PartialEq, Eq)]
 pub struct Plan {
     pub kind: Kind,
     pub count: u32,
@@ -28,164 +48,174 @@ pub struct Plan {
     pub total: u32,
 }
 
-// Minute and size of a report, or the number of the refusal.
-#[derive(Clone, Copy)]
-pub enum Reported {
-    At { minute: u64, size: u32 },
-    Refused(u32),
+// A report: its minute, and its size in records.
+#[derive(Clone, Copy, Debug, PartialEq, Eq)]
+pub struct Report {
+    pub minute: u64,
+    pub size: u32,
 }
 
-// How many, or the number of the refusal.
-#[derive(Clone, Copy)]
-pub enum Counted {
-    Count(u64),
-    Refused(u32),
+// A plan that is proper: whatever is asked of its endless run has an answer.
+#[derive(Clone, Copy, Debug, PartialEq, Eq)]
+pub struct ProperPlan {
+    pub plan: Plan,
+    pub ghost is_proper: { proper plan ≡ true },
 }
 
-pub fn is_proper(p: Plan) -> bool
-    ensures { result ≡ proper p }
-{
-    let k = p.count;
-    let kind = p.kind;
-    if k < 1 {
-        return false;
-    }
-    if 20160 < k {
-        return false;
-    }
-    if p.period < k {
-        return false;
-    }
-    if 20160 * k < p.period {
-        return false;
-    }
-    if p.total < k {
-        return false;
-    }
-    if 1000 * k < p.total {
-        return false;
-    }
-    match kind {
-        Kind::WellFormed => true,
-        Kind::Even => p.period % k == 0,
+impl Kind {
+    // Whether the kind takes a period of so many minutes for k reports: of the even kind all gaps are the same.
+    fn fits(self, k: u32, period: u32) -> bool
+        ensures { result ≡ kind_fits self k period }
+    {
+        match self {
+            Kind::WellFormed => true,
+            Kind::Even => period.is_multiple_of(k),
+        }
     }
 }
 
-// The minute of report i of the well-formed kind: whole periods, and the gaps before it in its own, of which the last are longer.
-fn well_minute(k: u64, period: u64, i: u64) -> u64
-    requires { (1 ≤ k) × (k ≤ 20160) × (period ≤ 20160 * k) × (i ≤ 2 ^ 32) }
-    ensures { result ≡ sum (well_gap k period) i }
-{
-    let j = i % k;
-    let shorter = k - period % k;
-    let longer = less(j, shorter);
-    i / k * period + (j * (period / k) + longer)
-}
+impl Plan {
+    #[tactic(auto, unfolding(crate::specs::Plans::proper))]
+    pub fn is_proper(self) -> bool
+        ensures { result ≡ proper self }
+    {
+        let k = self.count;
+        (1..=20160).contains(&k)
+            && (k..=20160 * k).contains(&self.period)
+            && (k..=1000 * k).contains(&self.total)
+            && self.kind.fits(k, self.period)
+    }
 
-// The difference, 0 where it would be below.
-fn less(a: u64, b: u64) -> u64
-    ensures { result ≡ a - b }
-{
-    if a < b { 0 } else { a - b }
-}
+    // The plan as a proper one, or refusal 11.
+    pub fn proper(self) -> Result<ProperPlan, Refusal>
+        ensures ok { IfOk result (λ p. p.plan ≡ self) }
+        ensures err { IfErr result (λ refusal. (refusal ≡ NotProper) × (proper self ≡ false)) }
+    {
+        if self.is_proper() {
+            Ok(ProperPlan { plan: self })
+        } else {
+            Err(Refusal::NotProper)
+        }
+    }
 
-// The size of report i of the well-formed kind: the first of a period are larger.
-fn well_size(k: u64, total: u64, i: u64) -> u64
-    requires { (1 ≤ k) × (total < 2 ^ 25) }
-    ensures { (result ≡ well_size k total i) × (result ≤ total + 1) }
-{
-    if i % k < total % k {
-        total / k + 1
-    } else {
-        total / k
+    // Minute and size of report i of the plan's endless run, or refusal 11.
+    pub fn report(self, i: u32) -> Result<Report, Refusal>
+        ensures { numbered result ≡ report_of self i }
+    {
+        Ok(self.proper()?.report(i))
+    }
+
+    // How many records the first n reports hold, or refusal 11.
+    pub fn records_of_first(self, n: u32) -> Result<u64, Refusal>
+        ensures { numbered result ≡ if_proper self (sum (run self).size n) }
+    {
+        Ok(self.proper()?.records_of_first(n))
     }
 }
 
-// What the first n reports of the well-formed kind hold: whole periods, and the rest, of which the first are larger.
-fn well_first(k: u64, total: u64, n: u64) -> u64
-    requires { (1 ≤ k) × (k ≤ 20160) × (total < 2 ^ 25) × (n ≤ 2 ^ 32) }
-    ensures { result ≡ sum (well_size k total) n }
-{
-    let j = n % k;
-    n / k * total + (j * (total / k) + numbers::smaller(j, total % k))
-}
-
-// What the first n reports of the even kind hold: rounded up, so that report 0 is as full as any.
-fn even_first(k: u64, total: u64, n: u64) -> u64
-    requires { (1 ≤ k) × (total < 2 ^ 25) × (n ≤ 2 ^ 32) }
-    ensures { result ≡ even_first k total n }
-{
-    numbers::ceil_div(n * total, k)
-}
-
-// The size of report i of the even kind.
-fn even_size(k: u64, total: u64, i: u64) -> u64
-    requires { (1 ≤ k) × (total < 2 ^ 25) × (i < 2 ^ 32) }
-    ensures { (result ≡ even_size k total i) × (result ≤ total + 1) }
-{
-    even_first(k, total, i + 1) - even_first(k, total, i)
-}
-
-// Minute and size of report i of the plan's endless run.
-pub fn report(p: Plan, i: u32) -> Reported
-    ensures { result ≡ report_of p i }
-{
-    if !is_proper(p) {
-        return Reported::Refused(refusal::NOT_PROPER);
+impl ProperPlan {
+    // The plan's numbers, with room for sums and products.
+    #[tactic(auto, using(crate::proofs::Proper::count_range))]
+    fn count(self) -> u64
+        ensures number { result ≡ self.plan.count }
+        ensures bounds { (1 ≤ result) × (result ≤ 20160) }
+    {
+        u64::from(self.plan.count)
     }
-    let kind = p.kind;
-    let k = p.count as u64;
-    let period = p.period as u64;
-    let total = p.total as u64;
-    let n = i as u64;
-    match kind {
-        Kind::WellFormed => Reported::At {
-            minute: well_minute(k, period, n),
-            size: well_size(k, total, n) as u32,
-        },
-        Kind::Even => Reported::At {
-            minute: n * (period / k),
-            size: even_size(k, total, n) as u32,
-        },
-    }
-}
 
-// What the first n reports of a proper plan hold.
-fn held_by_first(p: Plan, n: u64) -> u64
-    requires { (proper p ≡ true) × (n ≤ 2 ^ 32) }
-    ensures { result ≡ sum (run p).size n }
-{
-    let kind = p.kind;
-    let k = p.count as u64;
-    let total = p.total as u64;
-    match kind {
-        Kind::WellFormed => well_first(k, total, n),
-        Kind::Even => even_first(k, total, n),
+    #[tactic(auto, using(crate::proofs::Proper::period_range))]
+    fn period(self) -> u64
+        ensures number { result ≡ self.plan.period }
+        ensures bounds { (1 ≤ result) × (result ≤ 406425600) }
+    {
+        u64::from(self.plan.period)
     }
-}
 
-// How many reports of a proper plan lie before minute m: those of whole periods, and in the last one those whose number is below two
-// quotients, one by the shorter gap and one by the longer. The even kind has no longer gap.
-fn count_before(p: Plan, m: u64) -> u64
-    requires { proper p ≡ true }
-    ensures { (result ≡ reports_from (run p) 0 m) × (result ≤ m) }
-{
-    let k = p.count as u64;
-    let period = p.period as u64;
-    let gap = period / k;
-    let shorter = k - period % k;
-    let left = m % period;
-    let by_shorter = numbers::ceil_div(left, gap);
-    let by_longer = numbers::ceil_div(left + shorter, gap + 1);
-    m / period * k + numbers::smaller(by_shorter, by_longer)
-}
-
-// How many records the first n reports hold, or refusal 11.
-pub fn records_of_first(p: Plan, n: u32) -> Counted
-    ensures { result ≡ count_of p (sum (run p).size n) }
-{
-    if !is_proper(p) {
-        return Counted::Refused(refusal::NOT_PROPER);
+    #[tactic(auto, using(crate::proofs::Proper::total_most))]
+    fn total(self) -> u64
+        ensures number { result ≡ self.plan.total }
+        ensures bounds { result ≤ 20160000 }
+    {
+        u64::from(self.plan.total)
     }
-    Counted::Count(held_by_first(p, n as u64))
+
+    // The minute of report i: whole periods, and the gaps before it in its own, of which the last are longer. The even kind has no longer
+    // gap.
+    fn minute(self, i: u64) -> u64
+        requires { i ≤ 2 ^ 32 }
+        ensures { result ≡ minute (run self.plan) i }
+    {
+        let k = self.count();
+        let period = self.period();
+        let j = i % k;
+        let longer = j.saturating_sub(k - period % k);
+        i / k * period + (j * (period / k) + longer)
+    }
+
+    // The size of report i of the well-formed kind: the first of a period are larger.
+    #[tactic(auto, unfolding(crate::specs::Plans::well_size))]
+    fn well_size(self, i: u64) -> u64
+        ensures { result ≡ well_size self.plan.count self.plan.total i }
+    {
+        let k = self.count();
+        let total = self.total();
+        if i % k < total % k {
+            total / k + 1
+        } else {
+            total / k
+        }
+    }
+
+    // What the first n reports of the well-formed kind hold: whole periods, and the rest, of which the first are larger.
+    fn well_first(self, n: u64) -> u64
+        requires { n ≤ 2 ^ 32 }
+        ensures { result ≡ sum (well_size self.plan.count self.plan.total) n }
+    {
+        let k = self.count();
+        let total = self.total();
+        let j = n % k;
+        n / k * total + (j * (total / k) + j.min(total % k))
+    }
+
+    // What the first n reports of the even kind hold: rounded up, so that report 0 is as full as any.
+    #[tactic(auto, unfolding(crate::specs::Plans::even_first))]
+    fn even_first(self, n: u64) -> u64
+        requires { n ≤ 2 ^ 32 }
+        ensures { result ≡ even_first self.plan.count self.plan.total n }
+    {
+        // `ceil_div` is the definitions' own quotient, so that what is proved of those holds of it as it stands.
+        numbers::ceil_div(n * self.total(), self.count())
+    }
+
+    // The size of report i. That of the even kind is what one report more holds.
+    fn size(self, i: u64) -> u64
+        requires { i < 2 ^ 32 }
+        ensures { (result ≡ (run self.plan).size i) × (result ≤ 1000) }
+    {
+        match self.plan.kind {
+            Kind::WellFormed => self.well_size(i),
+            Kind::Even => self.even_first(i + 1) - self.even_first(i),
+        }
+    }
+
+    // Report i of the endless run.
+    pub fn report(self, i: u32) -> Report
+        ensures { result ≡ report_at (minute (run self.plan) i) ((run self.plan).size i) }
+    {
+        Report {
+            minute: self.minute(u64::from(i)),
+            // It fits, as is proved: `try_from` would bring an error that never comes.
+            size: self.size(u64::from(i)) as u32,
+        }
+    }
+
+    // How many records the first n reports hold.
+    pub fn records_of_first(self, n: u32) -> u64
+        ensures { result ≡ sum (run self.plan).size n }
+    {
+        match self.plan.kind {
+            Kind::WellFormed => self.well_first(u64::from(n)),
+            Kind::Even => self.even_first(u64::from(n)),
+        }
+    }
 }

@@ -1,0 +1,12 @@
+-- What is told of a proper plan.
+use Rattle.plan.specs.Reports.{report_of}
+use Rattle.plan.proofs.Answers.{told, not_proper}
+use Rattle.plan.proofs.Plan.report.Goals as goal
+
+pub returns-in_err-proper : goal.returns-in_err-proper
+unfolding report_of
+returns-in_err-proper c = not_proper _ _ _ c.in_err-proper.ensures.err c.from_residual.ensures.1
+
+pub returns : goal.returns
+unfolding report_of
+returns c = rw (← c.in_ok-proper.ensures.ok) (told _ c.in_ok-proper.field-0.is_proper c.report.ensures)
