@@ -3,35 +3,29 @@
 -- table is valid or not, and the minute open or closed.
 use Prim.Native.Nat.{ℕ, zero, suc, ◌/◌, ◌%◌, ◌<◌}
 use native.Mathlib.Omega.{arith}
+use native.Mathlib.Decide.{dec_lt}
 use native.Mathlib.Numerals.{add-one}
-use mathlib.Core.Path.{◌≡◌, refl, sym, ◌∙◌, ap}
-use mathlib.Core.Logic.{◌↔◌, ◌⊎◌, inl, inr, ⊎_elim}
+use mathlib.Core.Path.{◌≡◌, refl, ◌∙◌, ap}
+use mathlib.Core.Logic.{◌↔◌}
 use mathlib.Core.List.{List, [], ◌∷◌}
-use mathlib.Core.Bool.{Bool, true, false, and-false}
+use mathlib.Core.Bool.{true, false, and-false}
 use lib.ListN.{length, get_or}
 use borrow.Author.Tests.{ne_eqb, le-ltb}
+use Rattle.std.specs.Prelude.{Ok, Err}
+use Rattle.std.proofs.lemmas.Bool.Decides.{nat_tests}
 use Rattle.numbers.proofs.All.{all_right}
+use Rattle.spec.specs.Limits.{if_none}
 use Rattle.schedule.proofs.Rules.{not_both}
-use Rattle.spec.proofs.GoingOn.{none_or}
-use Rattle.duty.specs.declared.CalendarMinute.TheVariants.{At, Refused as NoCalendarMinute}
-use Rattle.duty.specs.declared.DutyMinute.TheVariants.{Number, Refused as NoDutyMinute}
 use Rattle.duty.specs.Weeks.{Table, day_right, day_open, is_open, days_right, open_before, table_number, IsTable}
 use Rattle.duty.specs.Minutes.{calendar_minute, calendar_of, duty_of, table_of}
 use Rattle.duty.proofs.OpenMinutes.{before_none, before_more, before_rises, open_same, calendar_open, calendar_before, calendar_is}
 use Rattle.duty.proofs.Tables.{day_right_lem, table_facts, facts_table, number_27, refuses_calendar, refuses_duty, gives_calendar, gives_duty, refuses_closed}
 
-open_or : (table : Table) (m : ℕ) → (is_open table m ≡ true) ⊎ (is_open table m ≡ false)
-open_or table m = pick (is_open table m) refl
-  where
-    pick : (b : Bool) → is_open table m ≡ b → (is_open table m ≡ true) ⊎ (is_open table m ≡ false)
-    pick true e = inl e
-    pick false e = inr e
-
 -- where a count is not 0, some minute is open
 some_open : (table : Table) (n : ℕ) → 0 < open_before table n → (m : ℕ) × (is_open table m ≡ true)
 some_open table zero h = absurd (omega (arith, before_none table))
 some_open table (suc n) h =
-    ⊎_elim (λ e. (n, e)) (λ e. some_open table n (let k = rw e at (before_more table n) in let g = rw (← add-one n) at h in omega arith)) (open_or table n)
+    elim (dec_lt 0 (open_before table n)) [ yes q ↦ some_open table n q | no q ↦ (n, let g = rw (← add-one n) at h in grind (arith, nat_tests, before_more)) ]
 
 -- where some minute is open, some minute of the first week is
 first_week : (table : Table) (m : ℕ) → is_open table m ≡ true → 0 < open_before table 10_080
@@ -67,69 +61,36 @@ other_count l h =
     let e : table_of l ≡ closed_days 7 = rw (ne_eqb (length l) 28 h) refl in
     rw e (number_27 (closed_days 7) (λ valid. let some = ((table_exact (closed_days 7)).0 valid).1 in not_both _ some.1 (closed_table some.0)))
 
--- no minute is a refusal, and no number another
-minute_or_refused : {m n : ℕ} → ¬ (At m ≡ NoCalendarMinute n)
-minute_or_refused e = let z : ◌≡◌ {A = ℕ} 0 1 = cc in omega arith
-
-number_or_refused : {d n : ℕ} → ¬ (Number d ≡ NoDutyMinute n)
-number_or_refused e = let z : ◌≡◌ {A = ℕ} 0 1 = cc in omega arith
-
-one_number : {n k : ℕ} → NoDutyMinute n ≡ NoDutyMinute k → n ≡ k
-one_number e = cc
-
 -- the answers, by whether the table is valid and the minute open
 module _ (table : Table) where
-  pub calendar_of_duty : (d m : ℕ) → (calendar_of table d ≡ At m) ↔ (IsTable table × (is_open table m ≡ true) × (open_before table m ≡ d))
+  pub calendar_of_duty : (d m : ℕ) → (calendar_of table d ≡ Ok m) ↔ (IsTable table × (is_open table m ≡ true) × (open_before table m ≡ d))
+  unfolding calendar_of if_none
   calendar_of_duty d m = (
     λ e.
-        ⊎_elim
-        (λ valid.
+        let valid : IsTable table = grind (arith, nat_tests) in
         let some = (table_facts table valid).1 in
-        let given = sym (gives_calendar table valid d) ∙ e in
-        let same : calendar_minute table d ≡ m = cc in
-        (valid, rw same at (calendar_open table some d), rw same at (calendar_before table some d)))
-        (λ wrong. absurd (minute_or_refused (sym e ∙ refuses_calendar table d wrong)))
-        (none_or (table_number table)),
-    λ h. gives_calendar table h.0 d ∙ ap At (rw h.2 at (calendar_is table (table_facts table h.0).1 m h.1)),
+        let same : calendar_minute table d ≡ m = grind (arith, nat_tests) in
+        (valid, rw same at (calendar_open table some d), rw same at (calendar_before table some d)),
+    λ h. gives_calendar table h.0 d ∙ ap Ok (rw h.2 at (calendar_is table (table_facts table h.0).1 m h.1)),
   )
 
-  pub calendar_27 : (d : ℕ) → (calendar_of table d ≡ NoCalendarMinute 27) ↔ (¬ IsTable table)
-  calendar_27 d = (λ e valid. minute_or_refused (sym (gives_calendar table valid d) ∙ e), refuses_calendar table d)
+  pub calendar_27 : (d : ℕ) → (calendar_of table d ≡ Err 27) ↔ (¬ IsTable table)
+  calendar_27 d = (λ e valid. let given = gives_calendar table valid d in cc, refuses_calendar table d)
 
-  pub duty_of_calendar : (m d : ℕ) → (duty_of table m ≡ Number d) ↔ (IsTable table × (is_open table m ≡ true) × (open_before table m ≡ d))
+  pub duty_of_calendar : (m d : ℕ) → (duty_of table m ≡ Ok d) ↔ (IsTable table × (is_open table m ≡ true) × (open_before table m ≡ d))
+  unfolding duty_of if_none
   duty_of_calendar m d = (
-    λ e.
-        ⊎_elim
-        (λ valid.
-        ⊎_elim
-        (λ opens. let given = sym (gives_duty table valid m opens) ∙ e in (valid, opens, cc))
-        (λ closed. absurd (number_or_refused (sym e ∙ refuses_closed table valid m closed)))
-        (open_or table m))
-        (λ wrong. absurd (number_or_refused (sym e ∙ refuses_duty table m wrong)))
-        (none_or (table_number table)),
-    λ h. gives_duty table h.0 m h.1 ∙ ap Number h.2,
+    λ e. (grind (arith, nat_tests), grind (arith, nat_tests), grind (arith, nat_tests)),
+    λ h. gives_duty table h.0 m h.1 ∙ ap Ok h.2,
   )
 
-  pub duty_27 : (m : ℕ) → (duty_of table m ≡ NoDutyMinute 27) ↔ (¬ IsTable table)
-  duty_27 m = (
-    λ e valid.
-        ⊎_elim
-        (λ opens. number_or_refused (sym (gives_duty table valid m opens) ∙ e))
-        (λ closed. let z = one_number (sym e ∙ refuses_closed table valid m closed) in omega arith)
-        (open_or table m),
-    refuses_duty table m,
-  )
+  pub duty_27 : (m : ℕ) → (duty_of table m ≡ Err 27) ↔ (¬ IsTable table)
+  unfolding duty_of if_none
+  duty_27 m = (λ e valid. grind (arith, nat_tests), refuses_duty table m)
 
-  pub duty_28 : (m : ℕ) → (duty_of table m ≡ NoDutyMinute 28) ↔ (IsTable table × (is_open table m ≡ false))
+  pub duty_28 : (m : ℕ) → (duty_of table m ≡ Err 28) ↔ (IsTable table × (is_open table m ≡ false))
+  unfolding duty_of if_none
   duty_28 m = (
-    λ e.
-        ⊎_elim
-        (λ valid.
-        ⊎_elim
-        (λ opens. absurd (number_or_refused (sym (gives_duty table valid m opens) ∙ e)))
-        (λ closed. (valid, closed))
-        (open_or table m))
-        (λ wrong. absurd (let z = one_number (sym e ∙ refuses_duty table m wrong) in omega arith))
-        (none_or (table_number table)),
+    λ e. (grind (arith, nat_tests, number_27), grind (arith, nat_tests, number_27)),
     λ h. refuses_closed table h.0 m h.1,
   )

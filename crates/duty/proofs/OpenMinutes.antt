@@ -6,9 +6,9 @@ use native.Mathlib.Omega.{arith}
 use native.Mathlib.Nat.{add_assoc, add-zero, zero-add}
 use native.Mathlib.Numerals.{add-one}
 use mathlib.Core.Path.{◌≡◌, refl, ◌∙◌}
-use mathlib.Core.Logic.{◌↔◌, ⊎_elim}
+use mathlib.Core.Logic.{◌↔◌}
 use mathlib.Core.Bool.{Bool, true, false, cond}
-use Rattle.numbers.proofs.Cases.{lt_cases}
+use Rattle.std.proofs.lemmas.Bool.Decides.{nat_tests}
 use Rattle.schedule.specs.Schedules.{InRounds}
 use Rattle.schedule.proofs.Sums.{sum_none, sum_more, sum_again, sum_whole}
 use Rattle.duty.specs.Weeks.{Table, is_open, open_before}
@@ -30,11 +30,7 @@ module _ (table : Table) where
   before_closed m e = rw (before_more m, e) (omega arith)
 
   before_step : (m : ℕ) → (open_before table m ≤ open_before table (m + 1)) × (open_before table (m + 1) ≤ open_before table m + 1)
-  before_step m = pick (is_open table m) refl
-    where
-      pick : (b : Bool) → is_open table m ≡ b → (open_before table m ≤ open_before table (m + 1)) × (open_before table (m + 1) ≤ open_before table m + 1)
-      pick true e = let k = before_open m e in (omega arith, omega arith)
-      pick false e = let k = before_closed m e in (omega arith, omega arith)
+  before_step m = let more = before_more m in (grind (arith, nat_tests), grind (arith, nat_tests))
 
   -- n minutes have at most n open ones
   pub before_some : (m n : ℕ) → (open_before table m ≤ open_before table (m + n)) × (open_before table (m + n) ≤ open_before table m + n)
@@ -111,18 +107,17 @@ module _ (table : Table) where
     calendar_is m e =
         let c = calendar_minute table (open_before table m) in
         let k = calendar_before (open_before table m) in
-        ⊎_elim
-        (λ h. absurd (let r = before_rises c m (calendar_open (open_before table m)) h in omega arith))
-        (λ h. ⊎_elim (λ q. absurd (let r = before_rises m c e q in omega arith)) (λ q. omega arith) (lt_cases m c))
-        (lt_cases c m)
+        let earlier = before_rises c m (calendar_open (open_before table m)) in
+        let later = before_rises m c e in
+        grind arith
 
     -- the duty minutes before minute a are those with a number below its count
     pub calendar_iff : (a d : ℕ) → calendar_minute table d < a ↔ d < open_before table a
     calendar_iff a d =
-        let e = calendar_before d in (
-          λ h. let r = before_rises (calendar_minute table d) a (calendar_open d) h in omega arith,
-          λ h. ⊎_elim (λ q. q) (λ q. absurd (omega (arith, before_mono a (calendar_minute table d) q))) (lt_cases (calendar_minute table d) a),
-        )
+        let e = calendar_before d in
+        let before = before_rises (calendar_minute table d) a (calendar_open d) in
+        let after = before_mono a (calendar_minute table d) in
+        (λ h. grind arith, λ h. grind arith)
 
     -- n duty minutes take n calendar minutes or more, since those have at most as many open ones
     pub calendar_apart : (d e : ℕ) → d ≤ e → calendar_minute table d + (e - d) ≤ calendar_minute table e
@@ -131,10 +126,9 @@ module _ (table : Table) where
         let y = calendar_minute table e in
         let p = calendar_before d in
         let q = calendar_before e in
-        ⊎_elim
-        (λ r. absurd (let o = before_rises y x (calendar_open e) r in omega arith))
-        (λ r. let z : x + (y - x) ≡ y = omega arith in let s = rw z at (before_some x (y - x)).1 in omega arith)
-        (lt_cases y x)
+        let before = before_rises y x (calendar_open e) in
+        let after = (before_some x (y - x)).1 in
+        grind arith
 
     pub calendar_least : (d : ℕ) → d ≤ calendar_minute table d
     calendar_least d = let e = calendar_before d in omega (arith, before_most (calendar_minute table d))

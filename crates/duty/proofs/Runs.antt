@@ -5,10 +5,8 @@ use Prim.Native.Nat.{ℕ, ◌+◌, ◌≤◌, ◌<◌}
 use native.Mathlib.Omega.{arith}
 use native.Mathlib.Nat.{le_trans}
 use mathlib.Core.Path.{refl}
-use mathlib.Core.Logic.{⊎_elim}
-use Rattle.numbers.proofs.Cases.{lt_cases}
+use Rattle.std.specs.Prelude.{Option, None, Some}
 use Rattle.spec.specs.declared.Rate.{Rate}
-use Rattle.spec.specs.declared.Rate.TheVariants.{Absent, Present}
 use Rattle.schedule.specs.Schedules.{Schedule, minute, stretch}
 use Rattle.schedule.specs.Timed.{timed_stretch, timed_gap, planned}
 use Rattle.schedule.specs.Rules.{SupplyKept}
@@ -36,17 +34,16 @@ module _ (table : Table) (valid : IsTable table) (s : Schedule) where
 
     in_duty : (a w i : ℕ) → Within (on_duty table s) a w i → Within (planned s) (open_before table a) w i
     in_duty a w i h =
+        let from = (calendar_iff table some a (minute s i)).1 in
         let until = (calendar_iff table some (a + w) (minute s i)).0 h.1 in
-        let few = (before_some table a w).1 in (
-          ⊎_elim (λ early. absurd (let c = (calendar_iff table some a (minute s i)).1 early in let g = h.0 in omega arith)) (λ q. q) (lt_cases (minute s i) (open_before table a)),
-          omega arith,
-        )
+        let few = (before_some table a w).1 in
+        (grind arith, omega arith)
 
     duty_most : (a w : ℕ) → timed_stretch (on_duty table s) a w ≤ stretch s (open_before table a) w
     duty_most a w =
         rw (← planned_stretch s (open_before table a) w)
         (within (on_duty table s) (planned s) (λ i. refl) (minute_least s later) a w (open_before table a) w (in_duty a w))
 
-    pub duty_supply : (rate : Rate) → SupplyKept rate (stretch s) → SupplyKept rate (timed_stretch (on_duty table s))
-    duty_supply Absent h = tt
-    duty_supply (Present b r) h = λ a. le_trans (duty_most a r) (h (open_before table a))
+    pub duty_supply : (rate : Option Rate) → SupplyKept rate (stretch s) → SupplyKept rate (timed_stretch (on_duty table s))
+    duty_supply None h = tt
+    duty_supply (Some x) h = λ a. le_trans (duty_most a x.minutes) (h (open_before table a))

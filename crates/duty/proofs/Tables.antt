@@ -1,23 +1,27 @@
--- A table's number, and the answers to which it leads. The count of a week is 0 exactly where the number is not, and of a table that keeps the
--- rules the open minutes before any minute are those of whole weeks, of whole days and of a part of a day.
+-- A table's number, and the answers to which it leads. Day by day it shows whether the table keeps the rules, and how many minutes it opens; and of a
+-- table that keeps the rules the open minutes before any minute are those of whole weeks, of whole days and of a part of a day.
 use Prim.Native.Nat.{ℕ, ◌+◌, ◌*◌, ◌/◌, ◌%◌, ◌<◌}
 use native.Mathlib.Omega.{arith}
 use native.Mathlib.Nat.{div-add-mod'}
-use mathlib.Core.Path.{◌≡◌, refl, ◌∙◌}
+use mathlib.Core.Path.{◌≡◌, sym, ◌∙◌}
 use mathlib.Core.List.{[]}
-use mathlib.Core.Bool.{Bool, true, false, cond, ◌&&◌}
-use lib.Dec.{ltb}
+use mathlib.Core.Bool.{true, false}
 use lib.ListN.{get_or}
-use borrow.Author.Tests.{lt-ltb, ltb-true, eq-eqb, ne_eqb}
+use borrow.Author.Count.{below_more}
+use Rattle.std.specs.Prelude.{Result, Ok, Err}
+use Rattle.std.proofs.lemmas.Bool.Decides.{nat_tests}
 use Rattle.numbers.proofs.All.{all_right}
+use Rattle.schedule.proofs.Rules.{not_both}
 use Rattle.spec.specs.Limits.{if_none}
-use Rattle.duty.specs.declared.CalendarMinute.TheVariants.{At, Refused as NoCalendarMinute}
-use Rattle.duty.specs.declared.DutyMinute.TheVariants.{Number, Refused as NoDutyMinute}
+use Rattle.spec.specs.declared.refusal.Refusal.{Refusal}
+use Rattle.spec.specs.Refusals.{number_of}
+use Rattle.spec.proofs.GoingOn.{stops}
+use Rattle.spec.proofs.Refusals.{number_of_some}
 use Rattle.duty.specs.Weeks.{Table, day_right, is_open, days_right, open_before, table_number, IsTable}
 use Rattle.duty.specs.Minutes.{calendar_minute, calendar_of, duty_of}
-use Rattle.duty.specs.Windows.{day_before, week_minutes, IsWeekMinute}
-use Rattle.duty.proofs.OpenMinutes.{open_same, before_weeks, calendar_is}
-use Rattle.duty.proofs.Days.{before_day}
+use Rattle.duty.specs.Windows.{day_before, IsWeekMinute}
+use Rattle.duty.proofs.OpenMinutes.{before_none, before_most, open_same, before_weeks, calendar_is}
+use Rattle.duty.proofs.Days.{before_day, before_next}
 
 module _ (table : Table) where
   pub day_right_lem : days_right table ≡ true → (k : ℕ) → k < 7 → day_right (get_or table k []) ≡ true
@@ -27,44 +31,41 @@ module _ (table : Table) where
   -- a valid table keeps the rules and opens some minute of the week
   pub table_facts : IsTable table → (days_right table ≡ true) × (0 < open_before table 10_080)
   unfolding table_number
-  table_facts e = pick (days_right table) (ltb 0 (open_before table 10_080)) refl e
-    where
-      pick : (a b : Bool) → ltb 0 (open_before table 10_080) ≡ b → ◌≡◌ {A = ℕ} (cond (a && b) 0 27) 0 → (a ≡ true) × (0 < open_before table 10_080)
-      pick true true q e = (refl, ltb-true 0 (open_before table 10_080) q)
-      pick true false q e = absurd (omega arith)
-      pick false b q e = absurd (omega arith)
+  table_facts e = (grind (arith, nat_tests), grind (arith, nat_tests))
 
   pub facts_table : days_right table ≡ true → 0 < open_before table 10_080 → IsTable table
   unfolding table_number
-  facts_table right some = rw (right, lt-ltb 0 (open_before table 10_080) some)
+  facts_table right some = grind (arith, nat_tests)
 
   -- there is no number but 27
   pub number_27 : ¬ IsTable table → table_number table ≡ 27
   unfolding table_number
-  number_27 = pick (days_right table && ltb 0 (open_before table 10_080))
-    where
-      pick : (b : Bool) → ¬ (◌≡◌ {A = ℕ} (cond b 0 27) 0) → ◌≡◌ {A = ℕ} (cond b 0 27) 27
-      pick true no_table = absurd (no_table refl)
-      pick false no_table = refl
+  number_27 wrong = grind (arith, nat_tests)
 
-  -- by the count of a week
-  pub week_right : days_right table ≡ true → week_minutes table ≡ open_before table 10_080
-  unfolding week_minutes
-  week_right right = rw right
+  -- it is the number of a table of which one day breaks the rules, and of one that opens no minute
+  pub wrong_day : (k : ℕ) → k < 7 → day_right (get_or table k []) ≡ false → table_number table ≡ 27
+  wrong_day k h wrong = number_27 (λ valid. not_both _ (day_right_lem (table_facts valid).0 k h) wrong)
 
-  pub week_wrong : days_right table ≡ false → week_minutes table ≡ 0
-  unfolding week_minutes
-  week_wrong wrong = rw wrong
+  pub none_open : open_before table 10_080 ≡ 0 → table_number table ≡ 27
+  none_open none = number_27 (λ valid. omega (arith, (table_facts valid).1))
 
-  pub week_some : (w : ℕ) → w ≡ week_minutes table → ¬ (w ≡ 0) → IsTable table × (w ≡ open_before table 10_080)
-  week_some w e some = pick (days_right table) refl
-    where
-      pick : (b : Bool) → days_right table ≡ b → IsTable table × (w ≡ open_before table 10_080)
-      pick true right = let k = e ∙ week_right right in (facts_table right (omega arith), k)
-      pick false wrong = absurd (some (e ∙ week_wrong wrong))
+  -- the first k days keep the rules, and w of their minutes are open
+  pub record DaysPassed (k w : ℕ) : Type 0 where
+    pub right : (i : ℕ) → i < k → day_right (get_or table i []) ≡ true
+    pub counted : w ≡ open_before table (1_440 * k)
 
-  pub week_none : (w : ℕ) → w ≡ week_minutes table → w ≡ 0 → ¬ IsTable table
-  week_none w e none valid = let f = table_facts valid in let k = e ∙ week_right f.0 in omega (arith, f.1)
+  pub passed_none : DaysPassed 0 0
+  passed_none = record { right = λ i h. absurd (omega arith); counted = sym (before_none table) }
+
+  pub passed_more : (k w : ℕ) → k < 7 → DaysPassed k w → day_right (get_or table k []) ≡ true → DaysPassed (k + 1) (w + day_before (get_or table k []) 1_440)
+  passed_more k w h passed right = record {
+    right = below_more _ k passed.right right;
+    counted = let more = before_next table k h right in let counted = passed.counted in omega arith;
+  }
+
+  pub passed_all : (w : ℕ) → DaysPassed 7 w → (days_right table ≡ true) × (w ≡ open_before table 10_080)
+  unfolding days_right
+  passed_all w passed = ((all_right (λ k. day_right (get_or table k [])) 7).1 passed.right, passed.counted)
 
   -- open minutes by whole weeks, whole days and a part of a day
   pub before_parts : days_right table ≡ true → (w m : ℕ) → w ≡ open_before table 10_080 → open_before table m
@@ -79,26 +80,29 @@ module _ (table : Table) where
       before_weeks table m ∙ rw (week, b)
 
   -- the answers
-  pub refuses_calendar : (d : ℕ) → ¬ IsTable table → calendar_of table d ≡ NoCalendarMinute 27
-  unfolding calendar_of if_none
-  refuses_calendar d wrong = rw (ne_eqb (table_number table) 0 wrong, number_27 wrong)
+  pub refusal_given : (goOn : Result ℕ ℕ) (r : Refusal) → number_of r ≡ table_number table → Err (number_of r) ≡ if_none (table_number table) goOn Err
+  refusal_given goOn r e = rw e (sym (stops (table_number table) goOn Err (λ valid. omega (arith, number_of_some r))))
 
-  pub refuses_duty : (m : ℕ) → ¬ IsTable table → duty_of table m ≡ NoDutyMinute 27
+  pub refuses_calendar : (d : ℕ) → ¬ IsTable table → calendar_of table d ≡ Err 27
+  unfolding calendar_of if_none
+  refuses_calendar d wrong = let e = number_27 wrong in grind (arith, nat_tests)
+
+  pub refuses_duty : (m : ℕ) → ¬ IsTable table → duty_of table m ≡ Err 27
   unfolding duty_of if_none
-  refuses_duty m wrong = rw (ne_eqb (table_number table) 0 wrong, number_27 wrong)
+  refuses_duty m wrong = let e = number_27 wrong in grind (arith, nat_tests)
 
   module _ (valid : IsTable table) where
-    pub gives_calendar : (d : ℕ) → calendar_of table d ≡ At (calendar_minute table d)
+    pub gives_calendar : (d : ℕ) → calendar_of table d ≡ Ok (calendar_minute table d)
     unfolding calendar_of if_none
-    gives_calendar d = rw (eq-eqb (table_number table) 0 valid)
+    gives_calendar d = grind (arith, nat_tests)
 
-    pub gives_duty : (m : ℕ) → is_open table m ≡ true → duty_of table m ≡ Number (open_before table m)
+    pub gives_duty : (m : ℕ) → is_open table m ≡ true → duty_of table m ≡ Ok (open_before table m)
     unfolding duty_of if_none
-    gives_duty m e = rw (eq-eqb (table_number table) 0 valid, e)
+    gives_duty m e = grind (arith, nat_tests)
 
-    pub refuses_closed : (m : ℕ) → is_open table m ≡ false → duty_of table m ≡ NoDutyMinute 28
+    pub refuses_closed : (m : ℕ) → is_open table m ≡ false → duty_of table m ≡ Err 28
     unfolding duty_of if_none
-    refuses_closed m e = rw (eq-eqb (table_number table) 0 valid, e)
+    refuses_closed m e = grind (arith, nat_tests)
 
     weeks_before : (q x : ℕ) → x < 10_080 → open_before table (q * 10_080 + x) ≡ q * open_before table 10_080 + open_before table x
     weeks_before q x h =
@@ -112,3 +116,8 @@ module _ (table : Table) where
         let r = d / w * 10_080 + x in
         let count : open_before table r ≡ d = weeks_before (d / w) x k.inside ∙ rw (k.count, ← e) (div-add-mod' d w) in
         rw count at (calendar_is table (table_facts valid).1 r (open_same table r x (omega arith) ∙ k.opens))
+
+-- what the functions go by that count day by day, and that which does so as it tests the days
+pub ruleset counted_days = (before_none, before_most, before_next, day_right_lem)
+
+pub ruleset tested_days = (before_most, passed_none, passed_more, passed_all, wrong_day, none_open, facts_table)

@@ -2,12 +2,8 @@
 -- the calendar minute of a duty minute below 2³², and the duty minute of an open calendar minute below 2³²"; "27 .. first; 28 for a
 -- closed calendar minute, after it". `calendar_of_duty` and `duty_of_calendar` of the demands' page say of both, without a search, which
 -- minutes belong together.
-use Rattle.std.specs.Prelude.{ℕ, zero, suc, ◌+◌, ◌*◌, List, [], ◌∷◌, true, false, cond, eqb, length, get_or}
+use Rattle.std.specs.Prelude.{ℕ, zero, suc, ◌+◌, ◌*◌, List, [], ◌∷◌, true, false, cond, eqb, length, get_or, Result, Ok, Err}
 use Rattle.spec.specs.Limits.{if_none}
-use Rattle.duty.specs.declared.CalendarMinute.{CalendarMinute}
-use Rattle.duty.specs.declared.CalendarMinute.TheVariants.{At, Refused as NoCalendarMinute}
-use Rattle.duty.specs.declared.DutyMinute.{DutyMinute}
-use Rattle.duty.specs.declared.DutyMinute.TheVariants.{Number, Refused as NoDutyMinute}
 use Rattle.duty.specs.Weeks.{Table, is_open, open_before, table_number}
 
 -- the first open one of the n minutes from m on; where none is, the one after them
@@ -21,12 +17,12 @@ calendar_minute table zero = first_open table 10_080 0
 calendar_minute table (suc d) = first_open table 10_080 (calendar_minute table d + 1)
 
 -- "the calendar minute of a duty minute"
-unfoldable pub calendar_of : Table → ℕ → CalendarMinute
-calendar_of table d = if_none (table_number table) (At (calendar_minute table d)) NoCalendarMinute
+unfoldable pub calendar_of : Table → ℕ → Result ℕ ℕ
+calendar_of table d = if_none (table_number table) (Ok (calendar_minute table d)) Err
 
 -- "the duty minute of an open calendar minute": so many open ones lie before it
-unfoldable pub duty_of : Table → ℕ → DutyMinute
-duty_of table m = if_none (table_number table) (cond (is_open table m) (Number (open_before table m)) (NoDutyMinute 28)) NoDutyMinute
+unfoldable pub duty_of : Table → ℕ → Result ℕ ℕ
+duty_of table m = if_none (table_number table) (cond (is_open table m) (Ok (open_before table m)) (Err 28)) Err
 
 -- The table of a list of numbers, as C hands it in: 28, day by day. For any other count of them a table with no window stands, which opens no
 -- minute and so gets 27.

@@ -3,228 +3,263 @@
 // run on duty minutes are judged here too, by theorems; what stretches of reports at given minutes hold is left to `schedule`.
 #![tactic(auto)]
 
-ghost use Rattle.std.specs.Prelude.{◌≡◌, true, ◌*◌, ◌≤◌, ◌<◌, ◌^◌, length};
+ghost use Rattle.std.specs.Prelude.{◌≡◌, true, ◌*◌, ◌-◌, ◌≤◌, ◌<◌, ◌^◌, [], ◌∷◌, get_or, IfOk};
+ghost use Rattle.spec.specs.Refusals.{numbered, answer_number};
 ghost use Rattle.duty.specs.Weeks.{window_right, day_right, in_window, day_open, is_open, open_before, days_right, table_number};
-ghost use Rattle.duty.specs.Minutes.{calendar_of, duty_of, day_of, table_of};
-ghost use Rattle.duty.specs.Windows.{window_before, day_before, day_minute, week_minutes, IsWeekMinute};
+ghost use Rattle.duty.specs.Minutes.{calendar_of, duty_of, table_of};
+ghost use Rattle.duty.specs.Windows.{window_before, day_before, IsDayMinute, IsWeekMinute};
 
-use spec::refusal;
+use spec::refusal::Refusal;
 
-// The calendar minute that was asked for, or the number of the refusal.
+// A window of a day: opening is included, closing is not. Both are 0 where there is no window, as in the table: one that is empty needs no case
+// of its own in any sum.
 #[derive(Clone, Copy)]
-pub enum CalendarMinute {
-    At(u64),
-    Refused(u32),
+struct Window {
+    opens: u16,
+    closes: u16,
+    ghost in_order: { opens ≤ closes },
+    ghost in_day: { closes ≤ 1440 },
 }
 
-// The number of the duty minute that was asked for, or that of the refusal.
+// A day that keeps the rules: a second window, where there is one, is not before the first ends.
 #[derive(Clone, Copy)]
-pub enum DutyMinute {
-    Number(u32),
-    Refused(u32),
+struct Day {
+    first: Window,
+    second: Window,
+    ghost apart: { second.opens < first.closes → second.closes ≡ 0 },
+}
+
+// A table that keeps the rules and opens some minute, and how many it opens.
+#[derive(Clone, Copy)]
+struct Week {
+    table: [[u16; 4]; 7],
+    minutes: u64,
+    ghost right: { days_right table ≡ true },
+    ghost counted: { minutes ≡ open_before table 10080 },
+    ghost some: { 0 < minutes },
 }
 
 fn window_right(opens: u16, closes: u16) -> bool
     ensures { result ≡ window_right opens closes }
 {
-    ((opens == 0) & (closes == 0)) | ((opens < closes) & (closes <= 1440))
+    opens == 0 && closes == 0 || opens < closes && closes <= 1440
 }
 
-fn day_right(day: [u16; 4]) -> bool
-    ensures { result ≡ day_right day }
+#[tactic(auto, unfolding(crate::specs::Weeks::day_right))]
+fn day_right(numbers: [u16; 4]) -> bool
+    ensures { result ≡ day_right numbers }
 {
-    let none = (day[2] == 0) & (day[3] == 0);
-    window_right(day[0], day[1]) & window_right(day[2], day[3]) & (none | (day[1] <= day[2]))
+    let [opens, closes, opens_again, closes_again] = numbers;
+    let none = opens_again == 0 && closes_again == 0;
+    window_right(opens, closes)
+        && window_right(opens_again, closes_again)
+        && (none || closes <= opens_again)
 }
 
-fn in_window(opens: u16, closes: u16, x: u64) -> bool
-    ensures { result ≡ in_window opens closes x }
-{
-    (numbers::wide(opens) <= x) & (x < numbers::wide(closes))
+impl Window {
+    // Whether minute x of the day lies in it.
+    fn contains(self, x: u64) -> bool
+        ensures { result ≡ in_window self.opens self.closes x }
+    {
+        u64::from(self.opens) <= x && x < u64::from(self.closes)
+    }
+
+    // How many minutes it has.
+    fn minutes(self) -> u64
+        ensures { result ≡ self.closes - self.opens }
+    {
+        u64::from(self.closes - self.opens)
+    }
+
+    // Those of them that lie before minute x of the day.
+    fn before(self, x: u64) -> u64
+        ensures value { result ≡ window_before self.opens self.closes x }
+        ensures within { result ≤ x }
+    {
+        x.min(u64::from(self.closes)) - x.min(u64::from(self.opens))
+    }
 }
 
-// Whether minute x of a day is open.
-fn day_open(day: [u16; 4], x: u64) -> bool
-    ensures { result ≡ day_open day x }
-{
-    in_window(day[0], day[1], x) | in_window(day[2], day[3], x)
-}
+impl Day {
+    ghost use Rattle.duty.specs.Days.{numbers_of};
 
-// Whether calendar minute m is open.
-fn is_open(table: [[u16; 4]; 7], m: u64) -> bool
-    ensures { result ≡ is_open table m }
-{
-    let x = m % 10080;
-    let k = (x / 1440) as usize;
-    let day = table[k];
-    day_open(day, x % 1440)
-}
-
-// The minutes of a window that lie before minute x of its day.
-fn window_before(opens: u16, closes: u16, x: u64) -> u64
-    requires { opens ≤ closes }
-    ensures { (result ≡ window_before opens closes x) × (result ≤ x) }
-{
-    numbers::smaller(x, numbers::wide(closes)) - numbers::smaller(x, numbers::wide(opens))
-}
-
-// The open minutes before minute x of a day.
-fn day_before(day: [u16; 4], x: u64) -> u64
-    requires { (day_right day ≡ true) × (x ≤ 1440) }
-    ensures { result ≡ day_before day x }
-{
-    window_before(day[0], day[1], x) + window_before(day[2], day[3], x)
-}
-
-// The open minutes of a whole day: those of its windows.
-fn day_minutes(day: [u16; 4]) -> u64
-    requires { day_right day ≡ true }
-    ensures { (result ≡ day_before day 1440) × (result ≤ 1440) }
-{
-    numbers::wide(day[1] - day[0]) + numbers::wide(day[3] - day[2])
-}
-
-// The open minutes of a week, 0 where some day breaks a rule.
-fn week_minutes(table: [[u16; 4]; 7]) -> u64
-    ensures { result ≡ week_minutes table }
-{
-    let mut total: u64 = 0;
-    let mut k: usize = 0;
-    while k < 7 {
-        let day = table[k];
-        if !day_right(day) {
-            return 0;
+    // The windows of four numbers of a table.
+    #[tactic(auto, unfolding(crate::specs::Weeks::day_right), using(std::proofs::lemmas::Bool::Decides::nat_tests))]
+    fn new(numbers: [u16; 4]) -> Self
+        requires { day_right numbers ≡ true }
+        ensures { numbers_of result ≡ numbers }
+    {
+        let [opens, closes, opens_again, closes_again] = numbers;
+        Day {
+            first: Window { opens, closes },
+            second: Window {
+                opens: opens_again,
+                closes: closes_again,
+            },
         }
-        total += day_minutes(day);
-        k += 1;
     }
-    total
-}
 
-// 0, or 27 for a table that breaks a rule or opens no minute.
-pub fn table_number(table: [[u16; 4]; 7]) -> u32
-    ensures { result ≡ table_number table }
-{
-    if week_minutes(table) == 0 {
-        refusal::WEEK_TABLE
-    } else {
-        0
+    // Whether minute x of the day is open.
+    #[tactic(auto, unfolding(crate::specs::Weeks::day_open))]
+    fn is_open(self, x: u64) -> bool
+        ensures { result ≡ day_open (numbers_of self) x }
+    {
+        self.first.contains(x) || self.second.contains(x)
     }
-}
 
-// The open minutes of the first so many days of a week.
-fn days_before(table: [[u16; 4]; 7], days: usize) -> u64
-    requires { (days_right table ≡ true) × (days ≤ 7) }
-    ensures { result ≡ open_before table (1440 * days) }
-{
-    let mut total: u64 = 0;
-    let mut k: usize = 0;
-    while k < days {
-        let day = table[k];
-        total += day_minutes(day);
-        k += 1;
+    // The open minutes of the whole day: those of its windows.
+    #[tactic(auto, unfolding(crate::specs::Windows::day_before))]
+    fn minutes(self) -> u64
+        ensures value { result ≡ day_before (numbers_of self) 1440 }
+        ensures within { result ≤ 1440 }
+    {
+        self.first.minutes() + self.second.minutes()
     }
-    total
-}
 
-// The open minutes before minute m, of which each week has `week`.
-fn open_before(table: [[u16; 4]; 7], week: u64, m: u64) -> u64
-    requires { (days_right table ≡ true) × (week ≡ open_before table 10080) × (m < 2 ^ 32) }
-    ensures { result ≡ open_before table m }
-{
-    let x = m % 10080;
-    let k = (x / 1440) as usize;
-    let day = table[k];
-    m / 10080 * week + (days_before(table, k) + day_before(day, x % 1440))
-}
-
-// The open minute of a day with n open ones before it.
-fn day_minute(day: [u16; 4], n: u64) -> u64
-    requires { (day_right day ≡ true) × (n < day_before day 1440) }
-    ensures { (result ≡ day_minute day n) × (result < 1440) }
-{
-    let first = numbers::wide(day[1] - day[0]);
-    if n < first {
-        numbers::wide(day[0]) + n
-    } else {
-        numbers::wide(day[2]) + (n - first)
+    // The open minutes before minute x of the day.
+    #[tactic(auto, unfolding(crate::specs::Windows::day_before))]
+    fn before(self, x: u64) -> u64
+        requires { x ≤ 1440 }
+        ensures { result ≡ day_before (numbers_of self) x }
+    {
+        self.first.before(x) + self.second.before(x)
     }
-}
 
-// The open minute of the week with n open ones before it.
-fn week_minute(table: [[u16; 4]; 7], n: u64) -> u64
-    requires { (days_right table ≡ true) × (n < open_before table 10080) }
-    ensures { IsWeekMinute table n result }
-{
-    let mut left = n;
-    let mut k: usize = 0;
-    while k < 7 {
-        let day = table[k];
-        let here = day_minutes(day);
-        if left < here {
-            return 1440 * (k as u64) + day_minute(day, left);
+    // The open minute with n open ones before it.
+    #[tactic(auto, unfolding(crate::specs::Weeks::day_open, crate::specs::Windows::day_before), using(std::proofs::lemmas::Bool::Decides::nat_tests))]
+    fn minute(self, n: u64) -> u64
+        requires { n < day_before (numbers_of self) 1440 }
+        ensures { IsDayMinute (numbers_of self) n result }
+    {
+        let first = self.first.minutes();
+        if n < first {
+            u64::from(self.first.opens) + n
+        } else {
+            u64::from(self.second.opens) + (n - first)
         }
-        left -= here;
-        k += 1;
     }
-    // Never reached: a week has more than n open minutes.
-    0
+}
+
+impl Week {
+    ghost use Rattle.duty.specs.Days.{numbers_of};
+
+    // Refusal 27 for a table that breaks a rule or opens no minute.
+    #[tactic(auto, using(crate::proofs::Tables::tested_days))]
+    fn new(table: [[u16; 4]; 7]) -> Result<Self, Refusal>
+        ensures answer { answer_number result ≡ table_number table }
+        ensures same { IfOk result (λ w. w.table ≡ table) }
+    {
+        let mut minutes = 0;
+        for numbers in table {
+            if !day_right(numbers) {
+                return Err(Refusal::WeekTable);
+            }
+            minutes += Day::new(numbers).minutes();
+        }
+        if minutes == 0 {
+            return Err(Refusal::WeekTable);
+        }
+        Ok(Week { table, minutes })
+    }
+
+    // Day k, from Monday.
+    #[tactic(auto, using(crate::proofs::Tables::day_right_lem))]
+    fn day(&self, k: u64) -> Day
+        requires { k < 7 }
+        ensures { numbers_of result ≡ get_or self.now.table k [] }
+    {
+        // For an index there is no `From`.
+        Day::new(self.table[k as usize])
+    }
+
+    // Whether calendar minute m is open.
+    #[tactic(auto, unfolding(crate::specs::Weeks::is_open))]
+    fn is_open(&self, m: u64) -> bool
+        ensures { result ≡ is_open self.now.table m }
+    {
+        let x = m % 10080;
+        self.day(x / 1440).is_open(x % 1440)
+    }
+
+    // The open minutes of the first so many days.
+    #[tactic(auto, using(crate::proofs::Tables::counted_days))]
+    fn days_before(&self, days: u64) -> u64
+        requires { days ≤ 7 }
+        ensures { result ≡ open_before self.now.table (1440 * days) }
+    {
+        let mut total = 0;
+        for k in 0..days {
+            total += self.day(k).minutes();
+        }
+        total
+    }
+
+    // The open minutes before calendar minute m.
+    fn before(&self, m: u64) -> u64
+        requires { m < 2 ^ 32 }
+        ensures { result ≡ open_before self.now.table m }
+    {
+        let x = m % 10080;
+        let day = x / 1440;
+        m / 10080 * self.minutes + (self.days_before(day) + self.day(day).before(x % 1440))
+    }
+
+    // The open minute of the first week with n open ones before it.
+    #[tactic(auto, using(crate::proofs::Tables::counted_days))]
+    fn minute(&self, n: u64) -> u64
+        requires { n < self.now.minutes }
+        ensures { IsWeekMinute self.now.table n result }
+    {
+        let mut left = n;
+        for k in 0..7 {
+            let day = self.day(k);
+            let here = day.minutes();
+            if left < here {
+                return 1440 * k + day.minute(left);
+            }
+            left -= here;
+        }
+        unreachable!()
+    }
+}
+
+// Refusal 27 for a table that breaks a rule or opens no minute.
+pub fn check_table(table: [[u16; 4]; 7]) -> Result<(), Refusal>
+    ensures { answer_number result ≡ table_number table }
+{
+    Week::new(table)?;
+    Ok(())
 }
 
 // The calendar minute of a duty minute.
-pub fn calendar_minute(table: [[u16; 4]; 7], duty: u32) -> CalendarMinute
-    ensures { result ≡ calendar_of table duty }
+pub fn calendar_minute(table: [[u16; 4]; 7], duty: u32) -> Result<u64, Refusal>
+    ensures { numbered result ≡ calendar_of table duty }
 {
-    let week = week_minutes(table);
-    if week == 0 {
-        return CalendarMinute::Refused(refusal::WEEK_TABLE);
-    }
-    let d = duty as u64;
-    CalendarMinute::At(d / week * 10080 + week_minute(table, d % week))
+    let week = Week::new(table)?;
+    let d = u64::from(duty);
+    Ok(d / week.minutes * 10080 + week.minute(d % week.minutes))
 }
 
 // The duty minute of a calendar minute.
-pub fn duty_minute(table: [[u16; 4]; 7], calendar: u32) -> DutyMinute
-    ensures { result ≡ duty_of table calendar }
+pub fn duty_minute(table: [[u16; 4]; 7], calendar: u32) -> Result<u32, Refusal>
+    ensures { numbered result ≡ duty_of table calendar }
 {
-    let week = week_minutes(table);
-    if week == 0 {
-        return DutyMinute::Refused(refusal::WEEK_TABLE);
+    let week = Week::new(table)?;
+    let m = u64::from(calendar);
+    if !week.is_open(m) {
+        return Err(Refusal::Closed);
     }
-    let m = calendar as u64;
-    if !is_open(table, m) {
-        return DutyMinute::Refused(refusal::CLOSED);
-    }
-    DutyMinute::Number(open_before(table, week, m) as u32)
-}
-
-// Day k of 28 numbers.
-fn day_of(numbers: &[u16], k: usize) -> [u16; 4]
-    requires { (length numbers.now ≡ 28) × (k < 7) }
-    ensures { result ≡ day_of numbers.now k }
-{
-    [
-        numbers[4 * k],
-        numbers[4 * k + 1],
-        numbers[4 * k + 2],
-        numbers[4 * k + 3],
-    ]
+    // It fits, as is proved: `try_from` would bring an error that never comes.
+    Ok(week.before(m) as u32)
 }
 
 // The table of 28 numbers, day by day; of any other count one that opens no minute, which gets 27.
 pub fn table_of(numbers: &[u16]) -> [[u16; 4]; 7]
     ensures { result ≡ table_of numbers.now }
 {
-    if numbers.len() != 28 {
-        return [[0; 4]; 7];
+    let mut table = [[0; 4]; 7];
+    if numbers.len() == 28 {
+        table.copy_from_slice(numbers.as_chunks().0);
     }
-    [
-        day_of(numbers, 0),
-        day_of(numbers, 1),
-        day_of(numbers, 2),
-        day_of(numbers, 3),
-        day_of(numbers, 4),
-        day_of(numbers, 5),
-        day_of(numbers, 6),
-    ]
+    table
 }

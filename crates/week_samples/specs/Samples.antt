@@ -1,13 +1,10 @@
 -- Week tables (document 02, Req 11): which minutes belong together, and which are refused, as one table; and one proof that the definitions give
 -- every value that it prints.
-use Rattle.std.specs.Prelude.{ℕ, ◌≡◌, refl, List, [], ◌∷◌, Bool, true, false, ◌&&◌, eqb}
+use Rattle.std.specs.Prelude.{ℕ, ◌≡◌, refl, List, [], ◌∷◌, Bool, true, false, ◌&&◌, eqb, Result, Ok, Err}
+use Rattle.std.specs.List.{list_all}
 use Rattle.numbers.specs.Numbers.{all}
 use Rattle.spec.specs.Limits.{if_none}
 use Rattle.schedule.specs.Schedules.{sum}
-use Rattle.duty.specs.declared.CalendarMinute.{CalendarMinute}
-use Rattle.duty.specs.declared.CalendarMinute.TheVariants.{At, Refused as NoCalendarMinute}
-use Rattle.duty.specs.declared.DutyMinute.{DutyMinute}
-use Rattle.duty.specs.declared.DutyMinute.TheVariants.{Number, Refused as NoDutyMinute}
 use Rattle.duty.specs.Weeks.{Table, day_right, day_open, is_open, open_before, days_right, table_number}
 use Rattle.duty.specs.Minutes.{first_open, calendar_minute, calendar_of, duty_of}
 
@@ -17,26 +14,18 @@ pub data Claim : Type 0 where
   together : (duty calendar : ℕ) → Claim
   minute_gets : (calendar number : ℕ) → Claim
 
-calendar_is : CalendarMinute → ℕ → Bool
-calendar_is (At m) minute = eqb m minute
-calendar_is (NoCalendarMinute n) minute = false
+minute_is : Result ℕ ℕ → ℕ → Bool
+minute_is (Ok m) minute = eqb m minute
+minute_is (Err n) minute = false
 
-duty_is : DutyMinute → ℕ → Bool
-duty_is (Number d) minute = eqb d minute
-duty_is (NoDutyMinute n) minute = false
-
-refused_with : DutyMinute → ℕ → Bool
-refused_with (Number d) number = false
-refused_with (NoDutyMinute n) number = eqb n number
+refused_with : Result ℕ ℕ → ℕ → Bool
+refused_with (Ok m) number = false
+refused_with (Err n) number = eqb n number
 
 claim_holds : Table → Claim → Bool
 claim_holds table (table_gets n) = eqb (table_number table) n
-claim_holds table (together d m) = calendar_is (calendar_of table d) m && duty_is (duty_of table m) d
+claim_holds table (together d m) = minute_is (calendar_of table d) m && minute_is (duty_of table m) d
 claim_holds table (minute_gets m n) = refused_with (duty_of table m) n
-
-claims_hold : Table → List Claim → Bool
-claims_hold table [] = true
-claims_hold table (c ∷ cs) = claim_holds table c && claims_hold table cs
 
 pub record Sample : Type 0 where
   pub table : Table
@@ -82,10 +71,9 @@ samples =
     ∷ []
 
 pub samples_hold : List Sample → Bool
-samples_hold [] = true
-samples_hold (x ∷ xs) = claims_hold x.table x.claims && samples_hold xs
+samples_hold = list_all (λ x. list_all (claim_holds x.table) x.claims)
 
 -- Every value of the table is what the definitions compute.
 pub samples_hold_lem : samples_hold samples ≡ true
-unfolding samples_hold samples week rest day claims_hold claim_holds calendar_is duty_is refused_with table_number days_right all day_right day_open is_open open_before sum first_open calendar_minute calendar_of duty_of if_none
+unfolding samples_hold samples week rest day claim_holds minute_is refused_with table_number days_right all day_right day_open is_open open_before sum first_open calendar_minute calendar_of duty_of if_none
 samples_hold_lem = refl

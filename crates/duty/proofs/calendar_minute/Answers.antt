@@ -1,22 +1,21 @@
 -- `calendar_minute` meets its contract: whole weeks by a division, and the open minute of one week with as many before it as are left.
-use native.Mathlib.Omega.{arith}
-use native.Mathlib.Nat.{mod-lt}
-use mathlib.Core.Path.{◌≡◌, sym, ◌∙◌, ap}
-use Rattle.duty.specs.declared.CalendarMinute.TheVariants.{At}
-use Rattle.duty.specs.Weeks.{open_before, IsTable}
-use Rattle.duty.proofs.Tables.{table_facts, week_some, week_none, refuses_calendar, gives_calendar, calendar_weeks}
-use Rattle.duty.proofs.calendar_minute.Goals.{Else-week-eq0}
+use mathlib.Core.Path.{sym, ◌∙◌, ap}
+use Rattle.std.specs.Prelude.{Ok}
+use Rattle.std.proofs.lemmas.Result.{err_from_is_err_and}
+use Rattle.duty.specs.Weeks.{IsTable}
+use Rattle.duty.specs.Minutes.{calendar_of}
+use Rattle.duty.proofs.Tables.{refusal_given, gives_calendar, calendar_weeks}
 use Rattle.duty.proofs.calendar_minute.Goals as goal
 
--- past the first test the table is a valid one, and the count is that of its week
-valid : (c : Else-week-eq0) → IsTable c.args.table × (c.week_minutes-week.result ≡ open_before c.args.table 10080)
-valid c = week_some _ _ c.week_minutes-week.ensures c.if-week-eq0.false
-
-pub returns-then-week-eq0 : goal.returns-then-week-eq0
-returns-then-week-eq0 c = sym (refuses_calendar _ _ (week_none _ _ c.week_minutes-week.ensures c.if-week-eq0.true))
-
-pub week_minute-requires : goal.week_minute-requires
-week_minute-requires c = let k = valid (goal.at.week_minute-requires c).Else-week-eq0 in ((table_facts _ k.0).0, rw (← k.1) (mod-lt _ (omega arith)))
+pub returns-in_err-week : goal.returns-in_err-week
+unfolding calendar_of
+returns-in_err-week c =
+    let p = err_from_is_err_and c.from_residual.result c.from_residual.ensures.1 in
+    rw (p.1, p.2) (refusal_given _ _ _ c.in_err-week.ensures.answer)
 
 pub returns : goal.returns
-returns c = let k = valid (goal.at.returns c).Else-week-eq0 in sym (gives_calendar _ k.0 _ ∙ ap At (calendar_weeks _ k.0 _ _ _ k.1 c.week_minute.ensures))
+returns c =
+    let week = c.in_ok-week.week in
+    let same = c.in_ok-week.ensures.same in
+    let valid : IsTable week.table = rw same (sym c.in_ok-week.ensures.answer) in
+    rw (← same, ← c.from-d.ensures) (sym (gives_calendar _ valid _ ∙ ap Ok (calendar_weeks _ valid _ _ _ week.counted c.minute.ensures)))
