@@ -1,22 +1,21 @@
--- 3, 4, 24 and 25 by `one_range_number`; the first condition that fails by `conditions_of`, whose divisors are no 0 in an accepted
+-- 3, 4, 24 and 25 by `check_one_range`; the first condition that fails by `conditions_of`, whose divisors are no 0 in an accepted
 -- specification.
-use Rattle.consistency.specs.declared.Consistency.TheVariants.{Refused}
-use Rattle.consistency.specs.Consistency.{consistency_of}
-use Rattle.spec.proofs.GoingOn.{goes_on, stops, one_range_iff}
-use mathlib.Core.Path.{sym, ◌∙◌, ap}
 use Rattle.consistency.proofs.consistency_of.Goals as goal
+use mathlib.Core.Path.{◌∙◌, sym}
+use Rattle.std.proofs.lemmas.Result.{err_from_is_err_and}
+use Rattle.spec.proofs.GoingOn.{goes_on, one_range_iff}
+use Rattle.consistency.specs.Consistency.{consistency_of}
+use Rattle.consistency.proofs.HandedOn.{handed_told}
 
-pub returns-then-n-ne0 : goal.returns-then-n-ne0
+pub returns-in_err-check_one_range : goal.returns-in_err-check_one_range
 unfolding consistency_of
-returns-then-n-ne0 c =
-    let n = c.one_range_number-n.ensures in
-    ap Refused n ∙ sym (stops _ _ Refused (λ z. c.if-n-ne0.true (n ∙ z)))
+returns-in_err-check_one_range c =
+    let p = err_from_is_err_and c.from_residual.result c.from_residual.ensures.1 in
+    handed_told _ _ _ _ c.in_err-check_one_range.ensures (rw p.2 at p.1)
 
-pub conditions_of-requires : goal.conditions_of-requires
-conditions_of-requires c = ((one_range_iff _).0 (sym c.one_range_number-n.ensures ∙ c.if-n-ne0.false)).0
+pub invariant_of-conditions_of : goal.invariant_of-conditions_of
+invariant_of-conditions_of c = record { accepted = ((one_range_iff _).0 (sym c.in_ok-check_one_range.ensures)).0 }
 
 pub returns : goal.returns
 unfolding consistency_of
-returns c =
-    let n = c.one_range_number-n.ensures in
-    c.conditions_of.ensures ∙ sym (goes_on _ _ Refused (sym n ∙ c.if-n-ne0.false))
+returns c = c.conditions_of.ensures ∙ sym (goes_on _ _ _ (sym c.in_ok-check_one_range.ensures))

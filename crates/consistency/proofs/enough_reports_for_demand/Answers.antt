@@ -1,15 +1,19 @@
--- By whether the demand rate is there; dmax and smin are no 0 in an accepted specification.
+-- dmax and smin are no 0 in an accepted specification.
+use native.Mathlib.Omega.{arith}
+use mathlib.Core.Path.{◌∙◌}
 use Rattle.spec.proofs.Facts.{facts}
-use Rattle.consistency.specs.Consistency.{where_rate, enough_reports_for_demand}
+use Rattle.consistency.specs.Consistency.{where_there, enough_reports_for_demand}
+use Rattle.numbers.proofs.Ceilings.{div_ceil_is}
 use Rattle.consistency.proofs.enough_reports_for_demand.Goals as goal
 
+pub div_ceil-requires : goal.div_ceil-requires
+div_ceil-requires c = let f = facts _ c.args.accepted.accepted in omega arith
+
 pub nonzero_div-result : goal.nonzero_div-result
-nonzero_div-result c = (facts _ c.requires).gap_low
+nonzero_div-result c = (facts _ c.args.accepted.accepted).gap_low
 
-pub returns-in-Absent : goal.returns-in-Absent
-unfolding enough_reports_for_demand where_rate
-returns-in-Absent c = rw c.in-Absent.is
-
-pub returns-in-Present : goal.returns-in-Present
-unfolding enough_reports_for_demand where_rate
-returns-in-Present c = rw (c.in-Present.is, c.ceil_div.ensures)
+pub returns : goal.returns
+unfolding enough_reports_for_demand where_there
+returns c =
+    let f = facts _ c.args.accepted.accepted in
+    rw (c.in-Some.is, c.div_ceil.ensures ∙ div_ceil_is _ _ (omega arith))
