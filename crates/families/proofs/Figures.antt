@@ -3,14 +3,18 @@
 use Prim.Native.Nat.{ℕ, zero, suc, ◌+◌, ◌-◌, ◌*◌, ◌/◌, ◌%◌, ◌≤◌, ◌<◌}
 use native.Mathlib.Omega.{arith}
 use native.Mathlib.Nat.{mod-lt, add-mul, one-mul, div-add-mod', zero-add, le_trans}
-use mathlib.Core.Path.{◌≡◌}
+use mathlib.Core.Path.{◌≡◌, ◌∙◌, ap}
 use mathlib.Core.Logic.{⊎_elim}
 use mathlib.Core.Bool.{true}
 use Rattle.schedule.specs.Schedules.{stretch}
+use Rattle.schedule.specs.Moments.{records_from}
 use Rattle.numbers.proofs.Cases.{lt_cases}
 use Rattle.schedule.proofs.Before.{stretch_add}
 use Rattle.plan.specs.declared.Plan.{Plan}
+use Rattle.plan.specs.declared.moments.Contents.{Contents}
 use Rattle.plan.specs.Plans.{proper, run}
+use Rattle.plan.specs.Moments.{contents_of}
+use Rattle.plan.proofs.PlanMoments.{first_stretch}
 use Rattle.plan.proofs.Proper.{proper_bounds}
 use Rattle.plan.proofs.Runs.{run_later, period_total, stretch_periods, stretch_start, held_within, held_most, front_fullest, back_thinnest}
 use Rattle.families.specs.Families.{required, least, available}
@@ -29,6 +33,10 @@ least_above : (f : ℕ → ℕ) (n b : ℕ) → ((i : ℕ) → b ≤ f i) → b 
 unfolding least
 least_above f zero b h = h 0
 least_above f (suc n) b h = omega (arith, least_above f n b h, h (suc n))
+
+-- what the first minutes of a plan hold is the stretch from minute 0 on
+pub first_held : (p : Plan) (m : ℕ) {n : ℕ} {x : Contents} → x ≡ contents_of n (records_from (run p) 0 m) → x.records ≡ stretch (run p) 0 m
+first_held p m e = ap (λ (x : Contents). x.records) e ∙ first_stretch p m
 
 module _ (p : Plan) (ok : proper p ≡ true) where
   abbrev π : ℕ

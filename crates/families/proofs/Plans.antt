@@ -6,11 +6,12 @@ use native.Mathlib.Nat.{le_trans, le-max_left, max-le, min-le_left, le-min, mul-
 use mathlib.Core.Path.{◌≡◌, refl, sym}
 use mathlib.Core.Logic.{inl, ⊎_elim}
 use mathlib.Core.Bool.{true, false, and-eq-true_iff}
+use Rattle.std.specs.Prelude.{Ok, Err}
 use Rattle.spec.specs.declared.Spec.{Spec}
 use Rattle.spec.specs.declared.Rates.{Rates}
 use Rattle.spec.specs.Limits.{size_allowed, gap_allowed}
-use Rattle.spec.proofs.KnownRates.{Known}
-use Rattle.spec.proofs.Facts.{facts, leb_iff, size_allowed_iff, gap_allowed_iff}
+use Rattle.spec.proofs.KnownRates.{Known, known}
+use Rattle.spec.proofs.Facts.{Facts, facts, leb_iff, size_allowed_iff, gap_allowed_iff}
 use Rattle.numbers.proofs.Cases.{lt_cases}
 use Rattle.plan.specs.declared.Kind.TheVariants.{WellFormed}
 use Rattle.plan.specs.declared.Plan.{Plan}
@@ -19,16 +20,16 @@ use Rattle.plan.proofs.Proper.{proper_kind}
 use Rattle.plan.proofs.WellFormed.{size_range, gap_range}
 use Rattle.families.specs.declared.Family.{Family}
 use Rattle.families.specs.declared.Family.TheVariants.{MinimumDemand, MaximumSupply}
-use Rattle.families.specs.declared.Scheduled.TheVariants.{Found, Refused}
-use Rattle.families.specs.Families.{exists, plan_for, supply_figure, figure_of, scheduled}
+use Rattle.families.specs.declared.Planning.{Planning}
+use Rattle.families.specs.Families.{exists, plan_for, supply_figure, figure_of, schedule_with, scheduled, planned}
 
 -- what is scheduled, by whether it exists
 module _ (f : Family) (s : Spec) (q : Rates) (k : ℕ) where
-  pub scheduled_none : exists f s q k ≡ false → scheduled f s q k ≡ Refused 6
+  pub scheduled_none : exists f s q k ≡ false → scheduled f s q k ≡ Err 6
   unfolding scheduled
   scheduled_none e = rw (scheduled, e)
 
-  pub scheduled_some : exists f s q k ≡ true → scheduled f s q k ≡ Found (plan_for f s q k) (supply_figure f q (plan_for f s q k))
+  pub scheduled_some : exists f s q k ≡ true → scheduled f s q k ≡ Ok (schedule_with f s q k)
   unfolding scheduled
   scheduled_some e = rw (scheduled, e)
 
@@ -36,6 +37,10 @@ module _ (f : Family) (s : Spec) (q : Rates) (k : ℕ) where
 pub figure_proper : (f : Family) (q : Rates) (plan : Plan) → proper plan ≡ true → figure_of f q plan ≡ supply_figure f q plan
 unfolding figure_of
 figure_proper f q plan ok = rw ok
+
+-- the numbers of a specification of which schedules are made
+pub planning_facts : (p : Planning) → Facts p.spec
+planning_facts p = facts p.spec (known p.spec p.rates p.begun).accepted
 
 -- averages in range, and few reports
 pub record InRange (s : Spec) (k π δ : ℕ) : Type 0 where
@@ -104,20 +109,25 @@ module _ (s : Spec) (q : Rates) (n : Known s q) where
     unfolding run kind_run
     well_gaps i = (gap_allowed_iff s _).1 (inl (gap_range k v.some π s.smin s.smax v.slow v.fast i))
 
-  pub plan_proper : (f : Family) (k : ℕ) → exists f s q k ≡ true → proper (plan_for f s q k) ≡ true
+  -- and so is that of either family
+  plan_well : (f : Family) (k : ℕ) → plan_for f s q k ≡ plan_of WellFormed k (plan_for f s q k).period (plan_for f s q k).total
   unfolding plan_for
-  plan_proper MinimumDemand k e = well_proper k _ _ (in_range MinimumDemand k e)
-  plan_proper MaximumSupply k e = well_proper k _ _ (in_range MaximumSupply k e)
+  plan_well MinimumDemand k = refl
+  plan_well MaximumSupply k = refl
+
+  pub plan_proper : (f : Family) (k : ℕ) → exists f s q k ≡ true → proper (plan_for f s q k) ≡ true
+  plan_proper f k e = rw (plan_well f k) (well_proper k _ _ (in_range f k e))
+
+  -- where there is a schedule, the figure of any plan is its own
+  pub planned_is : (f : Family) (k : ℕ) → exists f s q k ≡ true → planned f s q k ≡ schedule_with f s q k
+  unfolding planned schedule_with figure_of
+  planned_is f k e = rw (plan_proper f k e)
 
   pub plan_sizes : (f : Family) (k : ℕ) → exists f s q k ≡ true → (i : ℕ) → size_allowed s ((run (plan_for f s q k)).size i) ≡ true
-  unfolding plan_for
-  plan_sizes MinimumDemand k e = well_sizes k _ _ (in_range MinimumDemand k e)
-  plan_sizes MaximumSupply k e = well_sizes k _ _ (in_range MaximumSupply k e)
+  plan_sizes f k e = rw (plan_well f k) (well_sizes k _ _ (in_range f k e))
 
   pub plan_gaps : (f : Family) (k : ℕ) → exists f s q k ≡ true → (i : ℕ) → gap_allowed s ((run (plan_for f s q k)).gap i) ≡ true
-  unfolding plan_for
-  plan_gaps MinimumDemand k e = well_gaps k _ _ (in_range MinimumDemand k e)
-  plan_gaps MaximumSupply k e = well_gaps k _ _ (in_range MaximumSupply k e)
+  plan_gaps f k e = rw (plan_well f k) (well_gaps k _ _ (in_range f k e))
 
 pub plan_count : (f : Family) (s : Spec) (q : Rates) (k : ℕ) → (plan_for f s q k).count ≡ k
 unfolding plan_for

@@ -3,7 +3,7 @@
 -- rate its supply figure needs, is absent; 6 no schedule with k." Both rates are needed by either: one gives the schedule, the other
 -- the minutes of its figure. k is any number; 0 and those too large have no schedule by the inequalities themselves. Document 02, Req 06:
 -- 24, and 25 before 5.
-use Rattle.std.specs.Prelude.{ℕ, zero, suc, ◌-◌, ◌*◌, min, max, Bool, true, false, cond, ◌&&◌, leb}
+use Rattle.std.specs.Prelude.{ℕ, zero, suc, ◌-◌, ◌*◌, min, max, Bool, cond, ◌&&◌, leb, Result, Ok, Err}
 use Rattle.spec.specs.declared.Spec.{Spec}
 use Rattle.spec.specs.declared.Rates.{Rates}
 use Rattle.spec.specs.Rates.{started, if_rates}
@@ -14,7 +14,6 @@ use Rattle.plan.specs.Plans.{proper, run, plan_of}
 use Rattle.families.specs.declared.Family.{Family}
 use Rattle.families.specs.declared.Family.TheVariants.{MinimumDemand, MaximumSupply}
 use Rattle.families.specs.declared.Scheduled.{Scheduled}
-use Rattle.families.specs.declared.Scheduled.TheVariants.{Found, Refused}
 
 -- "It exists when k × smin ≤ P and k × dmax ≥ L."; "It exists when k × smax ≥ R and k × dmin ≤ B."
 unfoldable pub exists : Family → Spec → Rates → ℕ → Bool
@@ -49,11 +48,22 @@ supply_figure MaximumSupply q plan = available plan q.p
 unfoldable pub figure_of : Family → Rates → Plan → ℕ
 figure_of f q plan = cond (proper plan) (supply_figure f q plan) 0
 
+-- a schedule by its plan and its supply figure
+abbrev pub schedule_of : Plan → ℕ → Scheduled
+schedule_of plan v = record { plan = plan; supply = v }
+
+-- the schedule with k reports and its supply figure, whether or not there is one
+unfoldable pub schedule_with : Family → Spec → Rates → ℕ → Scheduled
+schedule_with f s q k = schedule_of (plan_for f s q k) (supply_figure f q (plan_for f s q k))
+
+-- the plan for k reports and the figure of any plan: where there is a schedule with k reports, that schedule (`planned_is` of proofs/Plans.antt)
+unfoldable pub planned : Family → Spec → Rates → ℕ → Scheduled
+planned f s q k = schedule_of (plan_for f s q k) (figure_of f q (plan_for f s q k))
+
 -- the schedule with k reports, or "6 no schedule with k"
-unfoldable pub scheduled : Family → Spec → Rates → ℕ → Scheduled
-scheduled f s q k =
-    elim (exists f s q k) [ true ↦ Found (plan_for f s q k) (supply_figure f q (plan_for f s q k)) | false ↦ Refused 6 ]
+unfoldable pub scheduled : Family → Spec → Rates → ℕ → Result Scheduled ℕ
+scheduled f s q k = cond (exists f s q k) (Ok (schedule_with f s q k)) (Err 6)
 
 -- 3, 4, 24 and 25, "5 the rate it rests on, or the rate its supply figure needs, is absent", then 6
-unfoldable pub schedule_for : Family → Spec → ℕ → Scheduled
-schedule_for f s k = if_rates (started s) (λ q. scheduled f s q k) Refused
+unfoldable pub schedule_for : Family → Spec → ℕ → Result Scheduled ℕ
+schedule_for f s k = if_rates (started s) (λ q. scheduled f s q k) Err

@@ -1,7 +1,7 @@
 -- What is taken is the best of all k, where there is a schedule at all. From the first count on: by induction, the schedule taken has a
 -- figure as good as every one so far, and the smallest number of reports of those as good. No other k has a schedule, so that up to the last
 -- count is all.
-use Prim.Native.Nat.{ℕ, zero, suc, ◌+◌, ◌-◌, ◌≤◌}
+use Prim.Native.Nat.{ℕ, zero, suc, ◌+◌, ◌-◌, ◌≤◌, ◌<◌}
 use native.Mathlib.Omega.{arith}
 use native.Mathlib.Nat.{le_trans}
 use mathlib.Core.Path.{◌≡◌, refl, sym, ◌∙◌, ap}
@@ -9,17 +9,17 @@ use mathlib.Core.Logic.{⊎_elim}
 use mathlib.Core.Bool.{Bool, true, false, cond}
 use borrow.Author.Tests.{ltb-true, ltb-false}
 use Rattle.numbers.proofs.Cases.{lt_cases}
+use Rattle.std.specs.Prelude.{Ok}
 use Rattle.spec.specs.declared.Spec.{Spec}
 use Rattle.spec.specs.declared.Rates.{Rates}
 use Rattle.spec.proofs.KnownRates.{Known}
 use Rattle.families.specs.declared.Family.{Family}
 use Rattle.families.specs.declared.Family.TheVariants.{MinimumDemand, MaximumSupply}
-use Rattle.families.specs.declared.Scheduled.TheVariants.{Found}
-use Rattle.families.specs.Families.{supply_figure, schedule_for}
+use Rattle.families.specs.declared.Scheduled.{Scheduled}
+use Rattle.families.specs.Families.{supply_figure, schedule_with, schedule_for}
 use Rattle.families.proofs.Plans.{plan_count}
 use Rattle.families.proofs.Schedules.{found_at, some_at}
-use Rattle.feasibility.specs.declared.Taken.{Taken}
-use Rattle.feasibility.specs.Test.{first_count, last_count, schedule_with, is_better, better_of, taken_from, taken, AsGood, BestOfAll}
+use Rattle.feasibility.specs.Test.{first_count, last_count, is_better, better_of, taken_from, taken, AsGood, BestOfAll}
 use Rattle.feasibility.proofs.Counts.{exists_iff}
 
 -- figures of a family are ordered
@@ -50,12 +50,12 @@ unfolding is_better
 not_better MinimumDemand v w e = omega (arith, ltb-false v w e)
 not_better MaximumSupply v w e = omega (arith, ltb-false w v e)
 
-module _ (f : Family) (schedule : ℕ → Taken) (from : ℕ) where
+module _ (f : Family) (schedule : ℕ → Scheduled) (from : ℕ) where
   abbrev figure : ℕ → ℕ
   figure k = (schedule k).supply
 
   -- the schedule with j reports is the best of those from the first up to m, and the first of the best
-  record FirstBest (m : ℕ) (t : Taken) : Type 0 where
+  record FirstBest (m : ℕ) (t : Scheduled) : Type 0 where
     j : ℕ
     inside : (from ≤ j) × (j ≤ m)
     is : schedule j ≡ t
@@ -66,7 +66,7 @@ module _ (f : Family) (schedule : ℕ → Taken) (from : ℕ) where
   up_to_suc : {X : Type 0} (m k : ℕ) → k ≤ m + 1 → (k ≤ m → X) → (k ≡ m + 1 → X) → X
   up_to_suc m k h a b = ⊎_elim (λ q. a (omega arith)) (λ q. b (omega arith)) (lt_cases k (m + 1))
 
-  step : (m : ℕ) (t : Taken) → from ≤ m → FirstBest m t → FirstBest (m + 1) (better_of f t (schedule (m + 1)))
+  step : (m : ℕ) (t : Scheduled) → from ≤ m → FirstBest m t → FirstBest (m + 1) (better_of f t (schedule (m + 1)))
   unfolding better_of
   step m t low h = pick (is_better f (figure (m + 1)) t.supply) refl
     where
@@ -89,17 +89,18 @@ module _ (f : Family) (schedule : ℕ → Taken) (from : ℕ) where
         first = λ k a b e. up_to_suc m k b (λ x. h.first k a x e) (λ x. omega (arith, h.inside.1));
       }
 
-  -- what is taken up to k, and up to one more
-  pub taken_first : taken_from f schedule from (from - from) ≡ schedule from
+  -- what is taken before the second, and before one more
+  pub taken_first : taken_from f schedule from (from + 1 - (from + 1)) ≡ schedule from
   unfolding taken_from
-  taken_first = let e : from - from ≡ 0 = omega arith in rw e
+  taken_first = let e : from + 1 - (from + 1) ≡ 0 = omega arith in rw e
 
-  pub taken_next : (k : ℕ) → from ≤ k → taken_from f schedule from (k + 1 - from) ≡ better_of f (taken_from f schedule from (k - from)) (schedule (k + 1))
+  pub taken_next : (k : ℕ) → from < k
+      → taken_from f schedule from (k + 1 - (from + 1)) ≡ better_of f (taken_from f schedule from (k - (from + 1))) (schedule k)
   unfolding taken_from
   taken_next k h =
-      let e : k + 1 - from ≡ suc (k - from) = omega arith in
-      let d : from + suc (k - from) ≡ k + 1 = omega arith in
-      rw e (ap (λ (x : ℕ). better_of f (taken_from f schedule from (k - from)) (schedule x)) d)
+      let e : k + 1 - (from + 1) ≡ suc (k - (from + 1)) = omega arith in
+      let d : from + suc (k - (from + 1)) ≡ k = omega arith in
+      rw e (ap (λ (x : ℕ). better_of f (taken_from f schedule from (k - (from + 1))) (schedule x)) d)
 
   best_from : (n : ℕ) → FirstBest (from + n) (taken_from f schedule from n)
   unfolding taken_from
@@ -125,9 +126,9 @@ module _ (s : Spec) (q : Rates) (n : Known s q) (f : Family) where
       let e : first + (last - first) ≡ last = omega arith in
       let h : FirstBest f (schedule_with f s q) first last t = rw e at (best_from f (schedule_with f s q) first (last - first)) in
       let there = (exists_iff s q n f h.j).1 h.inside in
-      let c : t.plan.count ≡ h.j = ap (λ (x : Taken). x.plan.count) (sym h.is) ∙ plan_count f s q h.j in
+      let c : t.plan.count ≡ h.j = ap (λ (x : Scheduled). x.plan.count) (sym h.is) ∙ plan_count f s q h.j in
       record {
-        schedule = ap (schedule_for f s) c ∙ some_at f s q h.j n there ∙ ap (λ (x : Taken). Found x.plan x.supply) h.is;
+        schedule = ap (schedule_for f s) c ∙ some_at f s q h.j n there ∙ ap (λ (x : Scheduled). Ok x) h.is;
         best = λ k other w x. let y = found_at f s q k other w n.both x in
             let i = (exists_iff s q n f k).0 y.at.there in
             rw (← y.at.figure, ← y.at.is) (h.best k i.0 i.1);

@@ -9,11 +9,11 @@ use mathlib.Core.Logic.{◌↔◌}
 use mathlib.Core.Bool.{true, and-eq-true_iff}
 use Rattle.numbers.specs.Numbers.{ceil}
 use Rattle.numbers.proofs.Ceilings.{ceil_le_iff}
+use Rattle.std.specs.Prelude.{Ok}
 use Rattle.spec.specs.declared.Spec.{Spec}
 use Rattle.spec.specs.declared.Rates.{Rates}
 use Rattle.spec.proofs.Facts.{facts, leb_iff}
 use Rattle.spec.proofs.KnownRates.{Known}
-use Rattle.consistency.specs.declared.Consistency.TheVariants.{Consistent}
 use Rattle.consistency.specs.Consistency.{consistency_of}
 use Rattle.consistency.proofs.Conditions.{fourth_holds, fifth_holds}
 use Rattle.families.specs.declared.Family.{Family}
@@ -39,7 +39,7 @@ module _ (s : Spec) (q : Rates) (n : Known s q) where
         λ h. simp (and-eq-true_iff, leb_iff) (first.0 h.0, last.0 h.1),
       )
 
-  pub some_count : consistency_of s ≡ Consistent → (f : Family) → first_count f s q ≤ last_count f s q
+  pub some_count : consistency_of s ≡ Ok tt → (f : Family) → first_count f s q ≤ last_count f s q
   unfolding first_count last_count
   some_count h MinimumDemand = fifth_holds s q.l q.p h n.demand
   some_count h MaximumSupply =

@@ -6,6 +6,7 @@ use native.Mathlib.Nat.{mul_comm}
 use mathlib.Core.Path.{◌≡◌}
 use mathlib.Core.Logic.{⊎_elim}
 use Rattle.numbers.specs.Numbers.{ceil}
+use Rattle.std.specs.Prelude.{Err}
 use Rattle.spec.specs.declared.Spec.{Spec}
 use Rattle.spec.proofs.Facts.{size_allowed_iff, gap_in_either, gap_allowed_pos}
 use Rattle.spec.proofs.GoingOn.{one_range_iff}
@@ -13,18 +14,17 @@ use Rattle.schedule.specs.Schedules.{Schedule, minute}
 use Rattle.schedule.specs.Rules.{Obeys}
 use Rattle.schedule.proofs.Before.{stretch_least}
 use Rattle.consistency.specs.declared.Condition.TheVariants.{FewestReportsFitBudget}
-use Rattle.consistency.specs.declared.Consistency.TheVariants.{Inconsistent}
-use Rattle.consistency.specs.Consistency.{consistency_of}
+use Rattle.consistency.specs.Consistency.{inconsistent, consistency_of}
 use Rattle.consistency.proofs.Conditions.{fourth_fails}
 
-pub fourth_needed : (s : Spec) → consistency_of s ≡ Inconsistent FewestReportsFitBudget → (t : Schedule) → ¬ Obeys s t
+pub fourth_needed : (s : Spec) → consistency_of s ≡ Err (inconsistent FewestReportsFitBudget) → (t : Schedule) → ¬ Obeys s t
 fourth_needed s e t o =
     let told = fourth_fails s e in
     let one = (one_range_iff s).0 told.0 in
     let b = told.1.0 in
     let r = told.1.1 in
     let short : (i : ℕ) → t.gap i ≤ s.smax =
-    λ i. ⊎_elim (λ h. h.1) (λ h. absurd (let x = h.2 in let y = one.1 in let z : ◌≡◌ {A = ℕ} 0 1 = cc in omega arith)) ((gap_in_either s (t.gap i)).0 (o.gaps i)) in
+    λ i. ⊎_elim (λ h. h.1) (λ h. absurd (let x = h.2 in let y = one.1 in cc)) ((gap_in_either s (t.gap i)).0 (o.gaps i)) in
     let full : (i : ℕ) → s.dmin ≤ t.size i = λ i. ((size_allowed_iff s (t.size i)).0 (o.sizes i)).0 in
     let least = stretch_least t (λ i. gap_allowed_pos s (t.gap i) one.0 (o.gaps i)) s.smax short s.dmin full 0 r in
     let kept = rw told.1.2 at o.supply in

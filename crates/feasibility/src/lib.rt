@@ -2,27 +2,21 @@
 // 24, 25, 5, 7 and 9.
 #![tactic(auto)]
 
-ghost use Rattle.std.specs.Prelude.{◌≡◌, true, ◌≤◌};
-ghost use Rattle.spec.specs.declared.BothRates.TheVariants.{Both};
-ghost use Rattle.spec.specs.Rates.{started};
-ghost use Rattle.families.specs.Families.{exists};
-ghost use Rattle.feasibility.specs.Test.{family_of, first_count, last_count, schedule_with, is_better, better_of, taken, figure_passes, test_taken, test_of};
+ghost use Rattle.std.specs.Prelude.{◌≡◌, ◌≤◌, true};
+ghost use Rattle.families.specs.Families.{exists, schedule_with};
+ghost use Rattle.consistency.specs.Consistency.{told};
+ghost use Rattle.feasibility.specs.Test.{family_of, first_count, last_count, is_better, better_of, taken, figure_passes, test_of};
 
-use consistency::{Condition, Consistency};
-use families::Family;
-use numbers::ceil_div;
-use plan::Plan;
-use spec::{BothRates, Rates, Spec};
+use consistency::Unfit;
+use families::{Family, Planning, Scheduled};
+use spec::refusal::Refusal;
+use spec::{Rates, Spec};
 
-// The plan that the test passes with its supply figure, the condition that failed first, or the number of another refusal.
-#[derive(Clone, Copy)]
-pub enum Tested {
-    Passed { plan: Plan, supply: u32 },
-    Inconsistent(Condition),
-    Refused(u32),
-}
+// What the two families differ in is a formula each time, side by side in a `match` as document 01 has them: a closure or a trait for each
+// would take them apart.
 
 // The family of which the test takes a schedule: minimum demand where R ≥ P.
+#[tactic(auto, unfolding(crate::specs::Test::family_of))]
 fn family_of(q: Rates) -> Family
     ensures { result ≡ family_of q }
 {
@@ -34,6 +28,7 @@ fn family_of(q: Rates) -> Family
 }
 
 // Whether the figure v is better than w.
+#[tactic(auto, unfolding(crate::specs::Test::is_better))]
 fn is_better(f: Family, v: u32, w: u32) -> bool
     ensures { result ≡ is_better f v w }
 {
@@ -43,25 +38,9 @@ fn is_better(f: Family, v: u32, w: u32) -> bool
     }
 }
 
-// A schedule with its supply figure. There is no case for none: the search begins with a k that has a schedule.
-#[derive(Clone, Copy)]
-struct Taken {
-    plan: Plan,
-    supply: u32,
-}
-
-// The schedule with k reports, where there is one.
-fn schedule_with(f: Family, s: Spec, q: Rates, k: u16) -> Taken
-    requires { (started s ≡ Both q) × (exists f s q k ≡ true) }
-    ensures { result ≡ schedule_with f s q k }
-{
-    let plan = families::plan_for(f, s, q, k);
-    let supply = families::figure_of(f, q, plan);
-    Taken { plan, supply }
-}
-
 // The schedule with the better figure; of equals the one taken so far.
-fn better_of(f: Family, best: Taken, next: Taken) -> Taken
+#[tactic(auto, unfolding(crate::specs::Test::better_of))]
+fn better_of(f: Family, best: Scheduled, next: Scheduled) -> Scheduled
     ensures { result ≡ better_of f best next }
 {
     if is_better(f, next.supply, best.supply) {
@@ -72,77 +51,76 @@ fn better_of(f: Family, best: Taken, next: Taken) -> Taken
 }
 
 // The first and the last number of reports with which the family has a schedule.
-fn first_count(f: Family, s: Spec, q: Rates) -> u16
-    requires { started s ≡ Both q }
-    ensures { result ≡ first_count f s q }
+#[tactic(auto, unfolding(crate::specs::Test::first_count))]
+fn first_count(planning: Planning) -> u16
+    ensures { result ≡ first_count planning.family planning.spec planning.rates }
 {
-    match f {
-        Family::MinimumDemand => ceil_div(q.l as u64, s.dmax as u64) as u16,
-        Family::MaximumSupply => ceil_div(q.r as u64, s.smax as u64) as u16,
+    let s = planning.spec;
+    let q = planning.rates;
+    match planning.family {
+        Family::MinimumDemand => q.l.div_ceil(s.dmax),
+        Family::MaximumSupply => q.r.div_ceil(s.smax),
     }
 }
 
-fn last_count(f: Family, s: Spec, q: Rates) -> u16
-    requires { started s ≡ Both q }
-    ensures { result ≡ last_count f s q }
+#[tactic(auto, unfolding(crate::specs::Test::last_count))]
+fn last_count(planning: Planning) -> u16
+    ensures { result ≡ last_count planning.family planning.spec planning.rates }
 {
-    match f {
+    let s = planning.spec;
+    let q = planning.rates;
+    match planning.family {
         Family::MinimumDemand => q.p / s.smin,
         Family::MaximumSupply => q.b / s.dmin,
     }
 }
 
+// The schedule with k reports, where there is one.
+fn schedule_with(planning: Planning, k: u16) -> Scheduled
+    requires { exists planning.family planning.spec planning.rates k ≡ true }
+    ensures { result ≡ schedule_with planning.family planning.spec planning.rates k }
+{
+    planning.schedule(k)
+}
+
 // The schedule with the best figure over all k, the smaller k of equals. Each k with a schedule is looked at once, from the first on: of a
 // consistent specification that has one.
-fn best_schedule(f: Family, s: Spec, q: Rates) -> Taken
-    requires { (started s ≡ Both q) × (first_count f s q ≤ last_count f s q) }
-    ensures { result ≡ taken f s q }
+fn best_schedule(planning: Planning) -> Scheduled
+    requires { let p = planning in first_count p.family p.spec p.rates ≤ last_count p.family p.spec p.rates }
+    ensures { result ≡ taken planning.family planning.spec planning.rates }
 {
-    let last = last_count(f, s, q);
-    let mut k = first_count(f, s, q);
-    let mut best = schedule_with(f, s, q, k);
-    while k < last {
-        k = k + 1;
-        best = better_of(f, best, schedule_with(f, s, q, k));
+    let first = first_count(planning);
+    let mut best = schedule_with(planning, first);
+    for k in first + 1..=last_count(planning) {
+        best = better_of(planning.family, best, schedule_with(planning, k));
     }
     best
 }
 
+#[tactic(auto, unfolding(crate::specs::Test::figure_passes))]
 fn figure_passes(f: Family, q: Rates, v: u32) -> bool
     ensures { result ≡ figure_passes f q v }
 {
     match f {
-        Family::MinimumDemand => v <= q.b as u32,
-        Family::MaximumSupply => q.l as u32 <= v,
+        Family::MinimumDemand => v <= u32::from(q.b),
+        Family::MaximumSupply => u32::from(q.l) <= v,
     }
 }
 
-fn test_taken(f: Family, q: Rates, best: Taken) -> Tested
-    ensures { result ≡ test_taken f q best }
+// The schedule that the test passes, with its supply figure; else the first condition that fails, or another refusal.
+pub fn test(spec: Spec) -> Result<Scheduled, Unfit>
+    ensures { told result ≡ test_of spec }
 {
-    let plan = best.plan;
-    let supply = best.supply;
-    if figure_passes(f, q, supply) {
-        Tested::Passed { plan, supply }
-    } else {
-        Tested::Refused(spec::refusal::NOT_PASSED)
-    }
-}
-
-// The plan that passes the test with its supply figure; else the first condition that fails, or another refusal.
-pub fn test(spec: Spec) -> Tested
-    ensures { result ≡ test_of spec }
-{
-    let start = spec::started(spec);
-    let BothRates::Both(q) = start else {
-        return Tested::Refused(spec::rates_number(start));
+    let rates = spec.started()?;
+    consistency::consistency_of(spec)?;
+    let planning = Planning {
+        family: family_of(rates),
+        spec,
+        rates,
     };
-    match consistency::consistency_of(spec) {
-        Consistency::Consistent => {
-            let f = family_of(q);
-            test_taken(f, q, best_schedule(f, spec, q))
-        }
-        Consistency::Inconsistent(c) => Tested::Inconsistent(c),
-        Consistency::Refused(n) => Tested::Refused(n),
+    let best = best_schedule(planning);
+    if !figure_passes(planning.family, rates, best.supply) {
+        return Err(Unfit::Refused(Refusal::NotPassed));
     }
+    Ok(best)
 }

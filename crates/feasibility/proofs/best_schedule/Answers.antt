@@ -1,49 +1,42 @@
+use Prim.Native.Nat.{◌+◌, ◌-◌}
 use native.Mathlib.Omega.{arith}
-use mathlib.Core.Path.{◌≡◌, sym}
+use mathlib.Core.Path.{◌≡◌, sym, ◌∙◌}
 use Rattle.spec.proofs.KnownRates.{known}
+use Rattle.families.proofs.Plans.{in_range}
 use Rattle.feasibility.specs.Test.{last_count, taken}
 use Rattle.feasibility.proofs.Counts.{exists_iff}
 use Rattle.feasibility.proofs.Best.{taken_first, taken_next}
 use Rattle.feasibility.proofs.best_schedule.Goals as goal
 
-pub last_count-last-requires : goal.last_count-last-requires
-last_count-last-requires c = c.requires.0
-
-pub first_count-k-requires : goal.first_count-k-requires
-first_count-k-requires c = c.requires.0
-
 pub schedule_with-best-requires : goal.schedule_with-best-requires
-schedule_with-best-requires c =
-    (c.requires.0, rw c.first_count-k.ensures ((exists_iff _ _ (known _ _ c.requires.0) _ _).1 (omega arith, c.requires.1)))
+schedule_with-best-requires c = (exists_iff _ _ (known _ _ c.args.planning.begun) _ _).1 (omega arith, omega arith)
+
+pub overflow_step-k : goal.overflow_step-k
+overflow_step-k c =
+    let n = known _ _ c.args.planning.begun in
+    let first = in_range _ _ n _ c.first_count-first.result ((exists_iff _ _ n c.args.planning.family _).1 (omega arith, omega arith)) in
+    record { fits = omega arith }
 
 pub loop-k-init : goal.loop-k-init
-loop-k-init c =
-    let first = c.first_count-k.ensures in
-    (rw (c.schedule_with-best.ensures, first) (sym (taken_first _ _ _)), omega arith, omega (arith, c.requires.1))
-
-pub overflow_add-k : goal.overflow_add-k
-overflow_add-k c = record { fits = omega arith }
+loop-k-init c = (c.schedule_with-best.ensures ∙ sym (taken_first _ _ _), omega (arith, c.requires))
 
 pub schedule_with-requires : goal.schedule_with-requires
-schedule_with-requires c =
-    let last = c.last_count-last.ensures in
-    let inv = c.loop-k.invariant in
-    (c.requires.0, (exists_iff _ _ (known _ _ c.requires.0) _ _).1 (omega (arith, inv.1), omega (arith, c.loop-k-test.true)))
-
-pub loop-k-smaller : goal.loop-k-smaller
-loop-k-smaller c = omega arith
+schedule_with-requires c = (exists_iff _ _ (known _ _ c.args.planning.begun) _ _).1 (omega arith, omega arith)
 
 pub loop-k-preserved : goal.loop-k-preserved
 loop-k-preserved c =
-    let last = c.last_count-last.ensures in
-    let inv = c.loop-k.invariant in
-    (rw (c.better_of-best.ensures, c.schedule_with.ensures, inv.0) (sym (taken_next _ _ _ _ inv.1)), omega (arith, inv.1), omega (arith, c.loop-k-test.true))
+    (rw (c.better_of-best.ensures, c.schedule_with.ensures, c.loop-k.invariant.0) (sym (taken_next _ _ _ _ (omega arith))), omega arith)
 
 pub returns : goal.returns
 unfolding taken
 returns c =
-    let last = c.last_count-last.ensures in
-    let inv = c.loop-k.invariant in
-    let start = c.args in
-    let k : c.loop-k.k ≡ last_count start.f start.s start.q = omega (arith, inv.2, c.loop-k-test.false) in
-    rw (← k) inv.0
+    let plan = c.args.planning in
+    let all : c.loop-k.k - (c.first_count-first.result + 1) ≡ last_count plan.family plan.spec plan.rates - c.first_count-first.result = omega arith in
+    rw (← c.first_count-first.ensures, ← all) c.loop-k.invariant.0
+
+pub returns-2 : goal.returns-2
+unfolding taken
+returns-2 c =
+    let plan = c.args.planning in
+    let all : c.loop-k.k + 1 - (c.first_count-first.result + 1) ≡ last_count plan.family plan.spec plan.rates - c.first_count-first.result = omega arith in
+    rw (← c.first_count-first.ensures, ← all, c.better_of-best.ensures, c.schedule_with.ensures, c.loop-k.invariant.0) (sym (taken_next _ _ _ _ (omega arith)))

@@ -1,25 +1,25 @@
--- By family; a number divided by one that is not 0, rounded up, is no larger than it was.
+-- dmax and smax are no 0 in an accepted specification.
 use native.Mathlib.Omega.{arith}
-use Rattle.numbers.proofs.Ceilings.{ceil_le_self}
-use Rattle.spec.proofs.Facts.{facts}
-use Rattle.spec.proofs.KnownRates.{known}
+use mathlib.Core.Path.{◌∙◌}
+use Rattle.numbers.proofs.Ceilings.{div_ceil_is}
+use Rattle.families.proofs.Plans.{planning_facts}
 use Rattle.feasibility.specs.Test.{first_count}
 use Rattle.feasibility.proofs.first_count.Goals as goal
 
-pub overflow_cast-result : goal.overflow_cast-result
-overflow_cast-result c =
-    let t = facts _ (known _ _ c.requires).accepted in
-    record { fits = omega (arith, ceil_le_self c.args.s.dmax (omega arith) c.args.q.l) }
+pub div_ceil-requires : goal.div_ceil-requires
+div_ceil-requires c = let t = planning_facts c.args.planning in omega arith
 
-pub overflow_cast-result-in-MaximumSupply : goal.overflow_cast-result-in-MaximumSupply
-overflow_cast-result-in-MaximumSupply c =
-    let t = facts _ (known _ _ c.requires).accepted in
-    record { fits = omega (arith, ceil_le_self c.args.s.smax (omega arith) c.args.q.r) }
+pub div_ceil-requires-in-MaximumSupply : goal.div_ceil-requires-in-MaximumSupply
+div_ceil-requires-in-MaximumSupply c = let t = planning_facts c.args.planning in omega arith
 
 pub returns-in-MinimumDemand : goal.returns-in-MinimumDemand
 unfolding first_count
-returns-in-MinimumDemand c = rw (c.ceil_div.ensures, c.in-MinimumDemand.is)
+returns-in-MinimumDemand c =
+    let t = planning_facts c.args.planning in
+    rw (c.in-MinimumDemand.is, c.div_ceil.ensures ∙ div_ceil_is _ _ (omega arith))
 
 pub returns-in-MaximumSupply : goal.returns-in-MaximumSupply
 unfolding first_count
-returns-in-MaximumSupply c = rw (c.ceil_div-in-MaximumSupply.ensures, c.in-MaximumSupply.is)
+returns-in-MaximumSupply c =
+    let t = planning_facts c.args.planning in
+    rw (c.in-MaximumSupply.is, c.div_ceil-in-MaximumSupply.ensures ∙ div_ceil_is _ _ (omega arith))
