@@ -2,16 +2,17 @@
 -- where none of the second does.
 use Prim.Native.Nat.{ℕ, ◌≤◌, ◌<◌}
 use native.Mathlib.Omega.{arith}
-use mathlib.Core.Path.{◌≡◌, refl, sym, subst}
+use mathlib.Core.Path.{◌≡◌, refl, sym, subst, ap, ◌∙◌}
 use mathlib.Core.Logic.{inl, inr, ⊎_elim}
 use mathlib.Core.Bool.{Bool, true, false, ◌&&◌, and-eq-true_iff}
+use Rattle.std.specs.Prelude.{Option, None, Some, MatchOption}
+use Rattle.std.specs.declared.num.NonZeroU16.{NonZeroU16}
 use Rattle.spec.specs.declared.Range.{Range}
-use Rattle.spec.specs.declared.Range.TheVariants.{Absent as NoRange, Present as RangeOf}
 use Rattle.spec.specs.declared.Spec.{Spec}
-use Rattle.spec.specs.Limits.{between, in_range, IsAccepted, gap_allowed, top_of, gap_top}
+use Rattle.spec.specs.Limits.{range_of, between, in_range, IsAccepted, gap_allowed, top_of, gap_top}
 use Rattle.spec.proofs.Facts.{between_iff, in_range_iff, second_range, gap_allowed_iff, gap_allowed_top}
 use Rattle.even.specs.Even.{fits, even_gap}
-use Rattle.even.specs.Search.{even_gap_in, even_gap_of}
+use Rattle.even.specs.Search.{gap_number, even_gap_in, even_gap_of}
 use Rattle.even.proofs.Search.{Largest, largest_right, largest_is}
 
 -- two tests of which not both pass
@@ -21,7 +22,7 @@ fails_then false c h = refl
 
 pub second_fails : (b c : Bool) → b && c ≡ false → b ≡ true → c ≡ false
 second_fails true c e h = e
-second_fails false c e h = absurd (let z : ◌≡◌ {A = ℕ} 0 1 = cc in omega arith)
+second_fails false c e h = cc
 
 module _ (spec : Spec) (ok : IsAccepted spec) where
   abbrev works : ℕ → Bool
@@ -47,14 +48,16 @@ module _ (spec : Spec) (ok : IsAccepted spec) where
         (r.0, r.1, h.1)
 
   -- a gap of the second range that fits is longer than any of the first
-  pub second_first : (x : Range) → spec.second ≡ x → 0 < even_gap_of spec x → even_gap spec ≡ even_gap_of spec x
+  pub second_first : (x : Option Range) → spec.second ≡ x → 0 < even_gap_of spec x → even_gap spec ≡ even_gap_of spec x
   unfolding even_gap_of in_range top_of
-  second_first NoRange e some = absurd (omega arith)
-  second_first (RangeOf lo hi) e some =
+  second_first None e some = absurd (omega arith)
+  second_first (Some r) e some =
+      let lo = r.min in
+      let hi = r.max in
       let g = even_gap_in spec lo hi in
       let f = found_fits lo hi some in
-      let there : in_range spec.second g ≡ true = subst (λ (x : Range). in_range x g ≡ true) (sym e) ((between_iff lo hi g).1 (f.0, f.1)) in
-      let top : g ≤ gap_top spec = subst (λ (x : Range). g ≤ top_of x spec.smax) (sym e) f.1 in
+      let there : in_range spec.second g ≡ true = subst (λ (x : Option Range). in_range x g ≡ true) (sym e) ((between_iff lo hi g).1 (f.0, f.1)) in
+      let top : g ≤ gap_top spec = subst (λ (x : Option Range). g ≤ top_of x spec.smax) (sym e) f.1 in
       gap_is g (record {
         passes = λ h. ((and-eq-true_iff _ _).1 ((gap_allowed_iff spec g).1 (inr there), f.2), top);
         above = λ y a b.
@@ -62,13 +65,13 @@ module _ (spec : Spec) (ok : IsAccepted spec) where
             ⊎_elim
             (λ r. absurd (omega (arith, r.1, f.0, (second_range spec lo hi ok e).above)))
             (λ r.
-            let k = (between_iff lo hi y).0 (subst (λ (x : Range). in_range x y ≡ true) e r) in
+            let k = (between_iff lo hi y).0 (subst (λ (x : Option Range). in_range x y ≡ true) e r) in
             none_above lo hi y a k.0 k.1)
             ((gap_allowed_iff spec y).0 allowed));
       })
 
   -- where no gap of the second range fits, the largest of the first is the largest of all
-  pub first_then : even_gap_of spec spec.second ≡ 0 → even_gap spec ≡ even_gap_of spec (RangeOf spec.smin spec.smax)
+  pub first_then : even_gap_of spec spec.second ≡ 0 → even_gap spec ≡ even_gap_of spec (Some (range_of spec.smin spec.smax))
   unfolding even_gap_of
   first_then none =
       let lo = spec.smin in
@@ -83,7 +86,13 @@ module _ (spec : Spec) (ok : IsAccepted spec) where
             (λ r. none_above lo hi y a r.0 r.1)
             (λ r.
             let k = (in_range_iff spec.second y).0 r in
-            let z : even_gap_in spec k.0 k.1 ≡ 0 = subst (λ (x : Range). even_gap_of spec x ≡ 0) k.2 none in
+            let z : even_gap_in spec k.0 k.1 ≡ 0 = subst (λ (x : Option Range). even_gap_of spec x ≡ 0) k.2 none in
             none_above k.0 k.1 y (omega (arith, z)) k.3 k.4)
             ((gap_allowed_iff spec y).0 allowed));
       })
+
+  -- so the gap of the second range where there is one, and else that of the first
+  pub either_range : (a r : Option NonZeroU16) → gap_number a ≡ even_gap_of spec spec.second
+      → MatchOption a (gap_number r ≡ even_gap_of spec (Some (range_of spec.smin spec.smax))) (λ x. r ≡ Some x) → gap_number r ≡ even_gap spec
+  either_range None r e h = h ∙ sym (first_then (sym e))
+  either_range (Some x) r e h = let some = x.ok in ap gap_number h ∙ e ∙ sym (second_first _ refl (omega arith))

@@ -12,8 +12,8 @@ use mathlib.Core.Bool.{Bool, true, false, ◌&&◌}
 use borrow.Author.Tests.{leb-false}
 use Rattle.numbers.specs.Numbers.{ceil}
 use Rattle.numbers.proofs.Cases.{lt_cases}
+use Rattle.std.specs.Prelude.{Option, None, Some}
 use Rattle.spec.specs.declared.Rate.{Rate}
-use Rattle.spec.specs.declared.Rate.TheVariants.{Absent, Present}
 use Rattle.spec.specs.declared.Spec.{Spec}
 use Rattle.spec.proofs.Facts.{size_below, size_above, gap_allowed_pos}
 use Rattle.schedule.specs.Schedules.{stretch}
@@ -34,7 +34,7 @@ module _ (s : Spec) (g : ℕ) (pos : 0 < g) (f : ℕ → ℕ) where
   held = stretch (evenly g f)
 
   -- a rule other than that of the gaps is broken
-  abbrev Broken : (supply demand : Rate) → Type 0
+  abbrev Broken : (supply demand : Option Rate) → Type 0
   Broken supply demand = SizeBroken s f ⊎ (TooFull supply held ⊎ TooThin demand held)
 
   -- m reports in a row hold less than m × dmin, or more than m × dmax
@@ -45,23 +45,24 @@ module _ (s : Spec) (g : ℕ) (pos : 0 < g) (f : ℕ → ℕ) where
   some_above m i many = let one = one_fuller f s.dmax 1 m i (rw mul-one many) in (one.0, size_above s _ (rw block_one at one.1))
 
   -- k reports in a row that don't include report 0 hold less than δ
-  row_thin : (q r : Rate) (i : ℕ) → 1 ≤ i → block f i (count_at r g) < total_of r s.dmin (count_at r g) → Broken q r
+  row_thin : (q r : Option Rate) (i : ℕ) → 1 ≤ i → block f i (count_at r g) < total_of r s.dmin (count_at r g) → Broken q r
   unfolding count_at total_of
-  row_thin q Absent i some few = inl (i, size_below s (f i) (rw block_one at few))
-  row_thin q (Present l p) i some few =
+  row_thin q None i some few = inl (i, size_below s (f i) (rw block_one at few))
+  row_thin q (Some x) i some few =
+      let p = x.minutes in
       let m = p / g in
       let e : i - 1 + 1 ≡ i = omega arith in
       let after : held ((i - 1) * g + 1) p ≡ block f i m = rw e at (stretch_after_report g pos f (i - 1) p) in
-      elim (lt_cases (block f i m) l) [
+      elim (lt_cases (block f i m) x.records) [
         | inl thin ↦ inr (inr ((i - 1) * g + 1, rw after thin))
         | inr enough ↦ elim (lt_cases (block f i m) (m * s.dmin)) [
           | inl below ↦ inl (some_below m i below)
-          | inr full ↦ absurd (omega (arith, total_least l p s.dmin m (block f i m) full enough))
+          | inr full ↦ absurd (omega (arith, total_least x s.dmin m (block f i m) full enough))
         ]
       ]
 
   -- j × k such reports hold less than j × δ
-  rows_thin : (q r : Rate) (j i : ℕ) → 1 ≤ i → block f i (j * count_at r g) < j * total_of r s.dmin (count_at r g) → Broken q r
+  rows_thin : (q r : Option Rate) (j i : ℕ) → 1 ≤ i → block f i (j * count_at r g) < j * total_of r s.dmin (count_at r g) → Broken q r
   rows_thin q r j i some few =
       let one = one_thinner f (total_of r s.dmin (count_at r g)) (count_at r g) j i few in
       row_thin q r (i + one.0) (omega arith) one.1
@@ -76,27 +77,29 @@ module _ (s : Spec) (g : ℕ) (pos : 0 < g) (f : ℕ → ℕ) where
         | inr enough ↦ enough
       ]
 
-  demand_unfit : (q r : Rate) → demand_fits r s.dmax (count_at r g) ≡ false → Broken q r
+  demand_unfit : (q r : Option Rate) → demand_fits r s.dmax (count_at r g) ≡ false → Broken q r
   unfolding demand_fits count_at
-  demand_unfit q Absent e = absurd (let z : ◌≡◌ {A = ℕ} 0 1 = cc in omega arith)
-  demand_unfit q (Present l p) e =
-      let m = p / g in
-      let unfit : m * s.dmax < l = leb-false _ _ e in
+  demand_unfit q None e = cc
+  demand_unfit q (Some x) e =
+      let m = x.minutes / g in
+      let unfit : m * s.dmax < x.records = leb-false _ _ e in
       elim (lt_cases (m * s.dmax) (block f 1 m)) [
         | inl many ↦ inl (some_above m 1 many)
-        | inr few ↦ row_thin q (Present l p) 1 (omega arith) (omega (arith, total_enough l p s.dmin m))
+        | inr few ↦ row_thin q (Some x) 1 (omega arith) (omega (arith, total_enough x s.dmin m))
       ]
 
-  supply_unfit : (q r : Rate) → supply_fits q g (count_at r g) (total_of r s.dmin (count_at r g)) ≡ false → Broken q r
+  supply_unfit : (q r : Option Rate) → supply_fits q g (count_at r g) (total_of r s.dmin (count_at r g)) ≡ false → Broken q r
   unfolding supply_fits
-  supply_unfit Absent r e = absurd (let z : ◌≡◌ {A = ℕ} 0 1 = cc in omega arith)
-  supply_unfit (Present b w) r e =
+  supply_unfit None r e = cc
+  supply_unfit (Some x) r e =
+      let b = x.records in
+      let w = x.minutes in
       let m = count_at r g in
       let n = ceil w g in
       let unfit : m * b < n * total_of r s.dmin m = leb-false _ _ e in
       elim (lt_cases (m * b) (block f 1 (m * n))) [
         | inl many ↦ let one = one_fuller f b n m 1 many in inr (inl (one.0 * g, rw (stretch_at_report g pos f one.0 w) one.1))
-        | inr few ↦ rows_thin (Present b w) r n 1 (omega arith) (rw (mul_comm n m) (omega arith))
+        | inr few ↦ rows_thin (Some x) r n 1 (omega arith) (rw (mul_comm n m) (omega arith))
       ]
 
   pub unfit_breaks : fits s g ≡ false → Broken s.supply s.demand

@@ -5,8 +5,8 @@ use native.Mathlib.Nat.{le_trans, le_refl, zero-mul, le-max_left, le-max_right, 
 use mathlib.Core.Path.{◌≡◌}
 use mathlib.Core.Bool.{true, and-eq-true_iff}
 use borrow.Author.Tests.{leb-true}
+use Rattle.std.specs.Prelude.{Option, None, Some}
 use Rattle.spec.specs.declared.Rate.{Rate}
-use Rattle.spec.specs.declared.Rate.TheVariants.{Absent, Present}
 use Rattle.spec.specs.declared.Spec.{Spec}
 use Rattle.spec.specs.Limits.{rate_limits, IsAccepted, gap_allowed}
 use Rattle.spec.proofs.Facts.{facts, leb_iff, size_allowed_iff, gap_allowed_pos}
@@ -21,23 +21,23 @@ use Rattle.numbers.proofs.Ceilings.{ceil_add_most, ceil_add_least}
 use Rattle.even.proofs.OneGap.{even_stretch}
 
 -- k and δ where there is a demand rate. Any P minutes have k reports.
-count_fewest : (l p g : ℕ) → 0 < g → (a : ℕ) → ceil a g + count_at (Present l p) g ≤ ceil (a + p) g
+count_fewest : (x : Rate) (g : ℕ) → 0 < g → (a : ℕ) → ceil a g + count_at (Some x) g ≤ ceil (a + x.minutes) g
 unfolding count_at
-count_fewest l p g pos a = ceil_add_least g pos a p
+count_fewest x g pos a = ceil_add_least g pos a x.minutes
 
 -- δ is the least number that is neither below k × dmin nor below L
-module _ (l p dmin m : ℕ) where
-  total_full : m * dmin ≤ total_of (Present l p) dmin m
+module _ (x : Rate) (dmin m : ℕ) where
+  total_full : m * dmin ≤ total_of (Some x) dmin m
   unfolding total_of
   total_full = le-max_left _ _
 
-  pub total_enough : l ≤ total_of (Present l p) dmin m
+  pub total_enough : x.records ≤ total_of (Some x) dmin m
   unfolding total_of
   total_enough = le-max_right _ _
 
-  pub total_least : (x : ℕ) → m * dmin ≤ x → l ≤ x → total_of (Present l p) dmin m ≤ x
+  pub total_least : (y : ℕ) → m * dmin ≤ y → x.records ≤ y → total_of (Some x) dmin m ≤ y
   unfolding total_of
-  total_least x full enough = max-le full enough
+  total_least y full enough = max-le full enough
 
 -- m reports between dmin and dmax can hold δ
 pub record Holds (m δ dmin dmax : ℕ) : Type 0 where
@@ -46,33 +46,34 @@ pub record Holds (m δ dmin dmax : ℕ) : Type 0 where
   pub high : δ ≤ m * dmax
 
 module _ (g : ℕ) (pos : 0 < g) where
-  holds : (r : Rate) (dmin dmax : ℕ) → rate_limits r ≡ true → dmin ≤ dmax → demand_fits r dmax (count_at r g) ≡ true
+  holds : (r : Option Rate) (dmin dmax : ℕ) → rate_limits r ≡ true → dmin ≤ dmax → demand_fits r dmax (count_at r g) ≡ true
       → Holds (count_at r g) (total_of r dmin (count_at r g)) dmin dmax
   unfolding count_at total_of demand_fits rate_limits
-  holds Absent dmin dmax c h e = record { some = omega arith; low = omega arith; high = omega arith }
-  holds (Present l p) dmin dmax c h e =
+  holds None dmin dmax c h e = record { some = omega arith; low = omega arith; high = omega arith }
+  holds (Some x) dmin dmax c h e =
       let limits = simp (and-eq-true_iff, leb_iff) at c in
-      let m = count_at (Present l p) g in
-      let can : l ≤ m * dmax = leb-true _ _ e in
+      let m = count_at (Some x) g in
+      let can : x.records ≤ m * dmax = leb-true _ _ e in
       let some : ¬ (m ≡ 0) = λ z. let none = rw (z, zero-mul) at can in omega arith in
-      record { some = omega arith; low = total_full l p dmin m; high = total_least l p dmin m (m * dmax) (mul-le-mul_left m h) can }
+      record { some = omega arith; low = total_full x dmin m; high = total_least x dmin m (m * dmax) (mul-le-mul_left m h) can }
 
-  supply_kept : (r : Rate) (m δ : ℕ) → 0 < m → supply_fits r g m δ ≡ true → SupplyKept r (stretch (evenly g (even_size m δ)))
+  supply_kept : (r : Option Rate) (m δ : ℕ) → 0 < m → supply_fits r g m δ ≡ true → SupplyKept r (stretch (evenly g (even_size m δ)))
   unfolding supply_fits
-  supply_kept Absent m δ h e = tt
-  supply_kept (Present b r) m δ h e = λ a.
+  supply_kept None m δ h e = tt
+  supply_kept (Some x) m δ h e = λ a.
+      let r = x.minutes in
       rw (even_stretch g pos (even_size m δ) a r)
       (le_trans (block_part (even_size m δ) (ceil a g) _ (ceil r g) (omega (arith, ceil_add_most g pos a r)))
-      (even_block_most m δ h b (ceil a g) (ceil r g) (leb-true _ _ e)))
+      (even_block_most m δ h x.records (ceil a g) (ceil r g) (leb-true _ _ e)))
 
-  demand_met : (r : Rate) (dmin : ℕ) → 0 < count_at r g → DemandMet r (stretch (evenly g (even_size (count_at r g) (total_of r dmin (count_at r g)))))
-  demand_met Absent dmin h = tt
-  demand_met (Present l p) dmin h = λ a.
-      let m = count_at (Present l p) g in
-      let δ = total_of (Present l p) dmin m in
-      rw (even_stretch g pos (even_size m δ) a p)
-      (le_trans (le_trans (total_enough l p dmin m) (even_block_least m δ h δ (ceil a g) m (le_refl _)))
-      (block_part (even_size m δ) (ceil a g) m _ (omega (arith, count_fewest l p g pos a))))
+  demand_met : (r : Option Rate) (dmin : ℕ) → 0 < count_at r g → DemandMet r (stretch (evenly g (even_size (count_at r g) (total_of r dmin (count_at r g)))))
+  demand_met None dmin h = tt
+  demand_met (Some x) dmin h = λ a.
+      let m = count_at (Some x) g in
+      let δ = total_of (Some x) dmin m in
+      rw (even_stretch g pos (even_size m δ) a x.minutes)
+      (le_trans (le_trans (total_enough x dmin m) (even_block_least m δ h δ (ceil a g) m (le_refl _)))
+      (block_part (even_size m δ) (ceil a g) m _ (omega (arith, count_fewest x g pos a))))
 
 -- the even plan's sizes at a gap g
 abbrev pub sizes_at : Spec → ℕ → ℕ → ℕ

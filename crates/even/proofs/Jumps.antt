@@ -6,18 +6,18 @@ use native.Mathlib.Nat.{le_trans, le-div_iff_mul-le, div-lt_iff_lt-mul, lt-div-m
 use mathlib.Core.Path.{◌≡◌, refl}
 use mathlib.Core.Bool.{Bool, true, false, and-eq-true_iff}
 use borrow.Author.Tests.{leb-true, le-leb}
+use Rattle.std.specs.Prelude.{Option, None, Some}
 use Rattle.spec.specs.declared.Rate.{Rate}
-use Rattle.spec.specs.declared.Rate.TheVariants.{Absent, Present}
 use Rattle.spec.specs.declared.Spec.{Spec}
 use Rattle.even.specs.Even.{count_at, total_of, demand_fits, supply_fits, fits}
 use Rattle.even.specs.Search.{next_gap}
 use Rattle.numbers.proofs.Ceilings.{ceil_falls}
 
-supply_longer : (r : Rate) (t s m δ : ℕ) → 0 < t → t ≤ s → supply_fits r t m δ ≡ true → supply_fits r s m δ ≡ true
+supply_longer : (r : Option Rate) (t s m δ : ℕ) → 0 < t → t ≤ s → supply_fits r t m δ ≡ true → supply_fits r s m δ ≡ true
 unfolding supply_fits
-supply_longer Absent t s m δ pos h e = refl
-supply_longer (Present b r) t s m δ pos h e =
-    le-leb _ _ (le_trans (mul-le-mul_right δ (ceil_falls r t s pos h)) (leb-true _ _ e))
+supply_longer None t s m δ pos h e = refl
+supply_longer (Some x) t s m δ pos h e =
+    le-leb _ _ (le_trans (mul-le-mul_right δ (ceil_falls x.minutes t s pos h)) (leb-true _ _ e))
 
 fits_longer : (spec : Spec) (t s : ℕ) → 0 < t → t ≤ s → count_at spec.demand t ≡ count_at spec.demand s → fits spec t ≡ true → fits spec s ≡ true
 unfolding fits
@@ -27,17 +27,19 @@ fits_longer spec t s pos h same e =
     let k = (and-eq-true_iff (demand_fits spec.demand spec.dmax m) _).0 (rw same at e) in
     (and-eq-true_iff (demand_fits spec.demand spec.dmax m) _).1 (k.0, supply_longer spec.supply t s m δ pos h k.1)
 
-pub next_gap_less : (d : Rate) (s : ℕ) → 0 < s → next_gap d s < s
+pub next_gap_less : (d : Option Rate) (s : ℕ) → 0 < s → next_gap d s < s
 unfolding next_gap
-next_gap_less Absent s pos = pos
-next_gap_less (Present l p) s pos =
+next_gap_less None s pos = pos
+next_gap_less (Some x) s pos =
+    let p = x.minutes in
     (div-lt_iff_lt-mul {k = p / s + 1} {x = p} {y = s} (omega arith)).1
     (rw mul_comm (omega (arith, add-mul (p / s) 1 s, lt-div-mul-add {a = p} {b = s} pos)))
 
-same_count : (d : Rate) (s t : ℕ) → 0 < s → next_gap d s < t → t ≤ s → count_at d t ≡ count_at d s
+same_count : (d : Option Rate) (s t : ℕ) → 0 < s → next_gap d s < t → t ≤ s → count_at d t ≡ count_at d s
 unfolding next_gap count_at
-same_count Absent s t pos a b = refl
-same_count (Present l p) s t pos a b =
+same_count None s t pos a b = refl
+same_count (Some x) s t pos a b =
+    let p = x.minutes in
     let tpos : 0 < t = omega arith in
     let u : p < t * (p / s + 1) = (div-lt_iff_lt-mul {k = p / s + 1} {x = p} {y = t} (omega arith)).0 a in
     let v : p / t < p / s + 1 = (div-lt_iff_lt-mul {k = t} {x = p} {y = p / s + 1} tpos).1 (rw mul_comm u) in
@@ -51,5 +53,5 @@ next_gap_skips spec s t pos a b e = by_cases (fits spec t) refl
     by_cases : (x : Bool) → fits spec t ≡ x → x ≡ false
     by_cases true q =
         let y = fits_longer spec t s (omega arith) b (same_count spec.demand s t pos a b) q in
-        absurd (let z : ◌≡◌ {A = ℕ} 0 1 = cc in omega arith)
+        cc
     by_cases false q = refl

@@ -6,10 +6,9 @@ use native.Mathlib.Omega.{arith}
 use native.Mathlib.Nat.{le_trans}
 use mathlib.Core.Path.{◌≡◌, refl}
 use mathlib.Core.Bool.{true}
-use Rattle.spec.specs.declared.Rate.TheVariants.{Absent, Present}
-use Rattle.spec.specs.declared.Range.TheVariants.{Absent as NoRange}
+use Rattle.std.specs.Prelude.{None, Some, Ok}
 use Rattle.spec.specs.declared.Spec.{Spec}
-use Rattle.spec.specs.Limits.{size_allowed, gap_allowed, in_range, top_of, spec_number, first_number, limits, order, rate_limits, range_limits, range_order, starts_above, if_none}
+use Rattle.spec.specs.Limits.{rate_of, size_allowed, gap_allowed, in_range, top_of, spec_number, first_number, limits, order, rate_limits, range_limits, range_order, starts_above, if_none}
 use Rattle.numbers.specs.Numbers.{ceil}
 use Rattle.numbers.proofs.Ceilings.{ceil_add_least, ceil_reach}
 use Rattle.schedule.specs.Schedules.{sum, stretch, held_from}
@@ -18,12 +17,11 @@ use Rattle.schedule.proofs.Sums.{block, block_one, block_part}
 use Rattle.plan.specs.declared.Plan.{Plan}
 use Rattle.plan.specs.declared.Kind.TheVariants.{Even}
 use Rattle.plan.specs.Plans.{plan_of}
-use Rattle.even.specs.declared.EvenPlan.TheVariants.{Found}
 use Rattle.even.specs.Even.{count_at, total_of, demand_fits, supply_fits, fits, largest, even_gap, even_plan_at, plan_or10, even_plan, evenly}
 use Rattle.even.proofs.OneGap.{even_stretch}
 
 abbrev fleet : Spec
-fleet = record { dmin = 1; dmax = 3; smin = 5; smax = 5; supply = Absent; demand = Present 3 7; duration = NoRange; second = NoRange }
+fleet = record { dmin = 1; dmax = 3; smin = 5; smax = 5; supply = None; demand = Some (rate_of 3 7); duration = None; second = None }
 
 thin_first : ℕ → ℕ
 thin_first zero = 1
@@ -49,12 +47,12 @@ enough (suc a) =
     rw (even_stretch 5 (omega arith) thin_first (suc a) 7)
     (le_trans one (block_part thin_first i 1 _ (omega (arith, ceil_add_least 5 (omega arith) (suc a) 7))))
 
-planned : even_plan fleet ≡ Found (plan_of Even 1 5 3)
+planned : even_plan fleet ≡ Ok (plan_of Even 1 5 3)
 unfolding even_plan plan_or10 even_plan_at even_gap largest fits demand_fits supply_fits count_at total_of gap_allowed in_range top_of if_none spec_number first_number limits order rate_limits range_limits range_order starts_above
 planned = refl
 
 pub report_0_thinner : (s : Spec) × (p : Plan) × (sizes : ℕ → ℕ)
-    × (even_plan s ≡ Found p) × Obeys s (evenly (p.period / p.count) sizes) × (sum sizes p.count < p.total)
+    × (even_plan s ≡ Ok p) × Obeys s (evenly (p.period / p.count) sizes) × (sum sizes p.count < p.total)
 unfolding thin_first sum gap_allowed
 report_0_thinner = (
   fleet,

@@ -1,15 +1,18 @@
 -- What `largest` gives: a number that passes, with none above it that does; and how a search from the top goes down to it.
 use Prim.Native.Nat.{ℕ, zero, suc, ◌≤◌, ◌<◌}
 use native.Mathlib.Omega.{arith}
-use mathlib.Core.Path.{◌≡◌, refl}
+use mathlib.Core.Path.{◌≡◌, refl, sym}
 use mathlib.Core.Logic.{⊎_elim}
 use mathlib.Core.Bool.{Bool, true, false, ◌&&◌, and-false}
 use borrow.Author.Tests.{le-leb, lt-leb}
+use Rattle.std.specs.Prelude.{Option, None, Some, MatchOption}
+use Rattle.std.specs.declared.num.NonZeroU16.{NonZeroU16}
+use Rattle.std.specs.Int.NonZero.{non_zero_u16_get}
 use Rattle.spec.specs.declared.Spec.{Spec}
 use Rattle.spec.specs.Limits.{between}
 use Rattle.numbers.proofs.Cases.{lt_cases}
 use Rattle.even.specs.Even.{fits, largest}
-use Rattle.even.specs.Search.{even_gap_in, next_gap}
+use Rattle.even.specs.Search.{gap_number, even_gap_in, next_gap}
 use Rattle.even.proofs.Jumps.{next_gap_less, next_gap_skips}
 
 module _ (ok : ℕ → Bool) where
@@ -34,12 +37,11 @@ module _ (ok : ℕ → Bool) where
   largest_is n x h =
       let y = largest ok n in
       let r = largest_right n in
-      let z : ◌≡◌ {A = ℕ} 0 1 → ⊥ = λ e. omega arith in
       ⊎_elim
-      (λ l. absurd (z (let p = (r.passes (omega arith)).0 in let q = h.above y l (r.passes (omega arith)).1 in cc)))
+      (λ l. let p = (r.passes (omega arith)).0 in let q = h.above y l (r.passes (omega arith)).1 in cc)
       (λ l.
       ⊎_elim
-      (λ m. absurd (z (let p = (h.passes (omega arith)).0 in let q = r.above x m (h.passes (omega arith)).1 in cc)))
+      (λ m. let p = (h.passes (omega arith)).0 in let q = r.above x m (h.passes (omega arith)).1 in cc)
       (λ m. omega arith)
       (lt_cases y x))
       (lt_cases x y)
@@ -59,27 +61,39 @@ module _ (ok : ℕ → Bool) where
       (λ q. let z : r ≡ suc s = omega arith in rw z)
       (lt_cases r (suc s))
 
+-- the gap of a number
+pub new_number : (x : Option NonZeroU16) (n : ℕ) → MatchOption x (n ≡ 0) (λ s. non_zero_u16_get s ≡ n) → gap_number x ≡ n
+new_number None n e = sym e
+new_number (Some s) n e = e
+
 -- The search in the range lo to hi: what it has yet to find where s is the gap to try next
 unfoldable pub left_from : Spec → ℕ → ℕ → ℕ → ℕ
 left_from spec lo hi s = largest (λ t. between lo hi t && fits spec t) s
 
-module _ (spec : Spec) (lo hi : ℕ) (low : 0 < lo) where
+module _ (spec : Spec) (lo hi : ℕ) where
   pub search_starts : left_from spec lo hi hi ≡ even_gap_in spec lo hi
   unfolding left_from even_gap_in
   search_starts = refl
 
-  pub search_hits : (s : ℕ) → lo ≤ s → s ≤ hi → fits spec s ≡ true → left_from spec lo hi s ≡ s
+  pub search_hits : (s : ℕ) → 0 < s → lo ≤ s → s ≤ hi → fits spec s ≡ true → left_from spec lo hi s ≡ s
   unfolding left_from
-  search_hits s a b e =
-      largest_top (λ t. between lo hi t && fits spec t) s (omega arith) (rw (le-leb lo s a, le-leb s hi b, e))
+  search_hits s pos a b e =
+      largest_top (λ t. between lo hi t && fits spec t) s pos (rw (le-leb lo s a, le-leb s hi b, e))
 
-  pub search_jumps : (s : ℕ) → lo ≤ s → fits spec s ≡ false → left_from spec lo hi s ≡ left_from spec lo hi (next_gap spec.demand s)
+  pub search_jumps : (s : ℕ) → 0 < s → fits spec s ≡ false → left_from spec lo hi s ≡ left_from spec lo hi (next_gap spec.demand s)
   unfolding left_from
-  search_jumps s a e =
+  search_jumps s pos e =
       largest_skip (λ t. between lo hi t && fits spec t) (next_gap spec.demand s) s
-      (omega (arith, next_gap_less spec.demand s (omega arith)))
-      (λ t p q. rw (next_gap_skips spec s t (omega arith) p q e, and-false))
+      (omega (arith, next_gap_less spec.demand s pos))
+      (λ t p q. rw (next_gap_skips spec s t pos p q e, and-false))
+
+  pub search_done : left_from spec lo hi 0 ≡ 0
+  unfolding left_from largest
+  search_done = refl
 
   pub search_ends : (s : ℕ) → s < lo → left_from spec lo hi s ≡ 0
   unfolding left_from largest
   search_ends s h = largest_skip (λ t. between lo hi t && fits spec t) 0 s (omega arith) (λ t p q. rw (lt-leb lo t (omega arith)))
+
+-- what the search goes by
+pub ruleset searching = (new_number, next_gap_less, search_starts, search_hits, search_jumps, search_ends, search_done)

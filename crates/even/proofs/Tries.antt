@@ -10,12 +10,11 @@ use mathlib.Core.Logic.{⊎_elim}
 use mathlib.Core.Bool.{Bool, true, false}
 use lib.Dec.{leb}
 use borrow.Author.Tests.{leb-true}
+use Rattle.std.specs.Prelude.{Option, None, Some}
 use Rattle.spec.specs.declared.Rate.{Rate}
-use Rattle.spec.specs.declared.Rate.TheVariants.{Absent, Present}
 use Rattle.spec.specs.declared.Range.{Range}
-use Rattle.spec.specs.declared.Range.TheVariants.{Absent as NoRange, Present as RangeOf}
 use Rattle.spec.specs.declared.Spec.{Spec}
-use Rattle.spec.specs.Limits.{IsAccepted}
+use Rattle.spec.specs.Limits.{range_of, IsAccepted}
 use Rattle.spec.proofs.Facts.{facts, second_range}
 use Rattle.spec.proofs.KnownRates.{present_limits}
 use Rattle.numbers.proofs.Cases.{lt_cases}
@@ -23,12 +22,12 @@ use Rattle.even.specs.Search.{next_gap, tries, tries_of, FewTries}
 use Rattle.even.proofs.Jumps.{next_gap_less}
 
 -- what is told of each gap
-record Left (d : Rate) (left : ℕ → ℕ) : Type 0 where
+record Left (d : Option Rate) (left : ℕ → ℕ) : Type 0 where
   some : (s : ℕ) → 0 < s → 0 < left s
   falls : (s : ℕ) → 0 < s → 0 < next_gap d s → left (next_gap d s) < left s
   rises : (h s : ℕ) → 0 < h → h ≤ s → left h ≤ left s
 
-module _ (d : Rate) (left : ℕ → ℕ) (known : Left d left) (lo : ℕ) (low : 0 < lo) where
+module _ (d : Option Rate) (left : ℕ → ℕ) (known : Left d left) (lo : ℕ) (low : 0 < lo) where
   -- one try more, or the end
   tries_more : (n s b : ℕ) → (lo ≤ s → suc (tries d lo n (next_gap d s)) ≤ b) → tries d lo (suc n) s ≤ b
   unfolding tries
@@ -69,27 +68,30 @@ module _ (d : Rate) (left : ℕ → ℕ) (known : Left d left) (lo : ℕ) (low :
       (lt_cases 0 next))
 
 -- with demand absent the first try of a range is its last
-left_absent : Left Absent (λ s. 1)
+left_absent : Left None (λ s. 1)
 unfolding next_gap
 left_absent = record { some = λ s h. omega arith; falls = λ s h some. absurd (omega arith); rises = λ h s a b. omega arith }
 
 abbrev lack : (p q s : ℕ) → ℕ
 lack p q s = q - p / s + min s q
 
-module _ (l p q : ℕ) (square : p < q * q) where
+module _ (x : Rate) (q : ℕ) (square : x.minutes < q * q) where
+  abbrev p : ℕ
+  p = x.minutes
+
   gap_below : (s : ℕ) → q ≤ p / s → s < q
   gap_below s h = lt_of_mul-lt-mul_right q (omega (arith, mul-le-mul_left s h, mul-div-le p s))
 
   -- a jump gives P minutes at least one report more
-  count_more : (s : ℕ) → 0 < next_gap (Present l p) s → p / s + 1 ≤ p / next_gap (Present l p) s
+  count_more : (s : ℕ) → 0 < next_gap (Some x) s → p / s + 1 ≤ p / next_gap (Some x) s
   unfolding next_gap
   count_more s pos = (le-div_iff_mul-le pos).1 (mul-div-le p (p / s + 1))
 
-  lack_falls : (s : ℕ) → 0 < s → 0 < next_gap (Present l p) s → lack p q (next_gap (Present l p) s) < lack p q s
+  lack_falls : (s : ℕ) → 0 < s → 0 < next_gap (Some x) s → lack p q (next_gap (Some x) s) < lack p q s
   lack_falls s pos there =
-      let next = next_gap (Present l p) s in
+      let next = next_gap (Some x) s in
       let more = count_more s there in
-      let less : next < s = next_gap_less (Present l p) s pos in
+      let less : next < s = next_gap_less (Some x) s pos in
       let no_longer : next ≤ s = omega arith in
       ⊎_elim
       (λ h. omega (arith, le-min (le_trans (min-le_left next q) no_longer) (min-le_right next q)))
@@ -98,7 +100,7 @@ module _ (l p q : ℕ) (square : p < q * q) where
       omega (arith, min-le_left next q, le-min (le_refl s) below))
       (lt_cases (p / s) q)
 
-  left_present : Left (Present l p) (lack p q)
+  left_present : Left (Some x) (lack p q)
   left_present = record {
     some = λ s pos.
         let q-some : 0 < q = ⊎_elim (λ h. h) (λ h. absurd (let z : q ≡ 0 = omega arith in let u : p < 0 * 0 = rw z at square in omega arith)) (lt_cases 0 q) in
@@ -113,7 +115,7 @@ module _ (l p q : ℕ) (square : p < q * q) where
 abbrev TriesWithin : (b : ℕ) → Spec → ℕ → Type 0
 TriesWithin b spec n =
     ((lo hi : ℕ) → 0 < lo → tries spec.demand lo n hi ≤ b)
-    × (tries_of spec.demand spec.second n + tries_of spec.demand (RangeOf spec.smin spec.smax) n ≤ b + 1)
+    × (tries_of spec.demand spec.second n + tries_of spec.demand (Some (range_of spec.smin spec.smax)) n ≤ b + 1)
 
 -- so it is where no more than b are left at any gap
 module _ (spec : Spec) (ok : IsAccepted spec) (left : ℕ → ℕ) (known : Left spec.demand left) (b n : ℕ) (most : (s : ℕ) → left s ≤ b) where
@@ -130,10 +132,12 @@ module _ (spec : Spec) (ok : IsAccepted spec) (left : ℕ → ℕ) (known : Left
   of_first : tries spec.demand spec.smin n spec.smax ≤ left spec.smax
   of_first = tries_left spec.demand left known spec.smin (facts spec ok).gap_low n spec.smax some_gap
 
-  of_both : (x : Range) → spec.second ≡ x → tries_of spec.demand x n + tries_of spec.demand (RangeOf spec.smin spec.smax) n ≤ b + 1
+  of_both : (x : Option Range) → spec.second ≡ x → tries_of spec.demand x n + tries_of spec.demand (Some (range_of spec.smin spec.smax)) n ≤ b + 1
   unfolding tries_of
-  of_both NoRange e = omega (arith, of_first, most spec.smax)
-  of_both (RangeOf lo hi) e =
+  of_both None e = omega (arith, of_first, most spec.smax)
+  of_both (Some x) e =
+      let lo = x.min in
+      let hi = x.max in
       let r = second_range spec lo hi ok e in
       let longer : spec.smax ≤ hi = omega (arith, r.above, r.order) in
       let of-second = tries_above spec.demand left known lo (omega (arith, r.above)) spec.smax n hi some_gap r.above longer in
@@ -145,8 +149,8 @@ module _ (spec : Spec) (ok : IsAccepted spec) (left : ℕ → ℕ) (known : Left
 pub few_tries : FewTries
 few_tries spec ok n = by spec.demand refl
   where
-    by : (d : Rate) → spec.demand ≡ d → TriesWithin 284 spec n
-    by Absent e = tries_within spec ok (λ s. 1) (rw e left_absent) 284 n (λ s. omega arith)
-    by (Present l p) e =
-        let few : p < 142 * 142 = omega (arith, (present_limits e (facts spec ok).demand).3) in
-        tries_within spec ok (lack p 142) (rw e (left_present l p 142 few)) 284 n (λ s. omega (arith, min-le_right s 142))
+    by : (d : Option Rate) → spec.demand ≡ d → TriesWithin 284 spec n
+    by None e = tries_within spec ok (λ s. 1) (rw e left_absent) 284 n (λ s. omega arith)
+    by (Some x) e =
+        let few : x.minutes < 142 * 142 = omega (arith, (present_limits e (facts spec ok).demand).3) in
+        tries_within spec ok (lack x.minutes 142) (rw e (left_present x 142 few)) 284 n (λ s. omega (arith, min-le_right s 142))

@@ -1,10 +1,9 @@
 -- What is true of the even plan beside what the demands' page says. Proved in proofs/Broken.antt and proofs/EvenPlans.antt.
-use Rattle.std.specs.Prelude.{ℕ, ◌/◌, ◌≤◌, ◌≡◌, ◌↔◌, true}
+use Rattle.std.specs.Prelude.{ℕ, ◌/◌, ◌≤◌, ◌≡◌, ◌↔◌, true, Ok}
 use Rattle.spec.specs.declared.Spec.{Spec}
 use Rattle.spec.specs.Limits.{IsAccepted, gap_allowed}
 use Rattle.schedule.specs.Rules.{Obeys}
 use Rattle.plan.specs.declared.Plan.{Plan}
-use Rattle.even.specs.declared.EvenPlan.TheVariants.{Found}
 use Rattle.even.specs.Even.{fits, even_plan, evenly}
 
 -- some endless list of sizes obeys the rules at the gap g
@@ -20,4 +19,4 @@ ArithmeticRight =
 abbrev pub EvenPlanGiven : Type 0
 EvenPlanGiven =
     (s : Spec) → IsAccepted s → (g : ℕ) (sizes : ℕ → ℕ) → Obeys s (evenly g sizes)
-    → (p : Plan) × (even_plan s ≡ Found p) × (g ≤ p.period / p.count)
+    → (p : Plan) × (even_plan s ≡ Ok p) × (g ≤ p.period / p.count)

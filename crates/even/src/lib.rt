@@ -1,186 +1,159 @@
 // The even plan: the longest gap at which an endless list of sizes obeys the rules, with k, period and total (document 01, "The
 // even plan"; document 02, Req 06). Refusal 10, after a specification's own. The sizes themselves are crate `plan`'s; here are the
 // arithmetic that says whether a gap has such a list, and the search for the longest one, which tries few of up to 20,160 gaps: those of
-// the second range first, as they are longer.
+// the second range first, as they are longer. No gap is 0, and its type says so.
 #![tactic(auto)]
 
-ghost use Rattle.std.specs.Prelude.{◌≡◌, ◌≤◌, true};
-ghost use Rattle.spec.specs.Limits.{range_limits, spec_number};
+ghost use Rattle.std.specs.Prelude.{◌≡◌};
+ghost use Rattle.std.specs.Int.NonZero.{non_zero_u16_get};
+ghost use Rattle.spec.specs.Refusals.{numbered};
 ghost use Rattle.even.specs.Even.{count_at, total_of, demand_fits, supply_fits, fits, even_gap, even_plan_at, even_plan, even_of};
-ghost use Rattle.even.specs.Search.{even_gap_in, even_gap_of, next_gap};
+ghost use Rattle.even.specs.Search.{gap_number, even_gap_in, even_gap_of, next_gap};
 
-use numbers::{ceil_div, larger};
 use plan::{Kind, Plan};
-use spec::{Range, Rate, Spec, SpecRead, refusal};
-
-// The even plan, or the number of its refusal.
-#[derive(Clone, Copy)]
-pub enum EvenPlan {
-    Found(Plan),
-    Refused(u32),
-}
+use spec::refusal::Refusal;
+use spec::{Accepted, Range, Rate, Spec};
+use std::num::NonZeroU16;
 
 // The fewest reports in any P minutes; 1 where demand is absent.
-fn count_at(demand: Rate, s: u16) -> u64
-    requires { 1 ≤ s }
-    ensures { (result ≡ count_at demand s) × (result ≤ 65535) }
+#[tactic(auto, unfolding(crate::specs::Even::count_at))]
+fn count_at(demand: Option<Rate>, s: NonZeroU16) -> u16
+    ensures { result ≡ count_at demand (non_zero_u16_get s) }
 {
-    match demand {
-        Rate::Absent => 1,
-        Rate::Present {
-            records: _,
-            minutes,
-        } => (minutes as u64) / (s as u64),
-    }
+    demand.map_or(1, |rate| rate.minutes / s)
 }
 
-fn total_of(demand: Rate, dmin: u16, m: u64) -> u64
-    requires { m ≤ 65535 }
-    ensures { (result ≡ total_of demand dmin m) × (result ≤ 4294836225) }
+#[tactic(auto, unfolding(crate::specs::Even::total_of))]
+fn total_of(demand: Option<Rate>, dmin: u16, m: u16) -> u32
+    ensures { result ≡ total_of demand dmin m }
 {
-    let least = dmin as u64;
-    match demand {
-        Rate::Absent => least,
-        Rate::Present {
-            records,
-            minutes: _,
-        } => larger(m * least, records as u64),
-    }
+    let least = u32::from(dmin);
+    demand.map_or(least, |rate| {
+        (u32::from(m) * least).max(u32::from(rate.records))
+    })
 }
 
-fn demand_fits(demand: Rate, dmax: u16, m: u64) -> bool
-    requires { m ≤ 65535 }
+#[tactic(auto, unfolding(crate::specs::Even::demand_fits))]
+fn demand_fits(demand: Option<Rate>, dmax: u16, m: u16) -> bool
     ensures { result ≡ demand_fits demand dmax m }
 {
-    match demand {
-        Rate::Absent => true,
-        Rate::Present {
-            records,
-            minutes: _,
-        } => records as u64 <= m * (dmax as u64),
-    }
+    demand.is_none_or(|rate| u32::from(rate.records) <= u32::from(m) * u32::from(dmax))
 }
 
 // The most reports in R minutes hold at most B, where every m in a row hold the total.
-fn supply_fits(supply: Rate, s: u16, m: u64, total: u64) -> bool
-    requires { (1 ≤ s) × (m ≤ 65535) × (total ≤ 4294836225) }
-    ensures { result ≡ supply_fits supply s m total }
+#[tactic(auto, unfolding(crate::specs::Even::supply_fits), using(numbers::proofs::Ceilings::div_ceil_is))]
+fn supply_fits(supply: Option<Rate>, s: NonZeroU16, m: u16, total: u32) -> bool
+    ensures { result ≡ supply_fits supply (non_zero_u16_get s) m total }
 {
-    match supply {
-        Rate::Absent => true,
-        Rate::Present { records, minutes } => ceil_div(minutes as u64, s as u64) * total
-            <= m * (records as u64),
+    supply.is_none_or(|rate| {
+        u64::from(rate.minutes.div_ceil(s.get())) * u64::from(total)
+            <= u64::from(m) * u64::from(rate.records)
+    })
+}
+
+// What the plan at a gap has in one period: k reports, with δ records.
+#[derive(Clone, Copy)]
+struct Period {
+    count: u16,
+    total: u32,
+}
+
+fn period_at(spec: Spec, s: NonZeroU16) -> Period
+    ensures count { result.count ≡ count_at spec.demand (non_zero_u16_get s) }
+    ensures total { result.total ≡ total_of spec.demand spec.dmin result.count }
+{
+    let count = count_at(spec.demand, s);
+    Period {
+        count,
+        total: total_of(spec.demand, spec.dmin, count),
     }
 }
 
-fn fits_at(spec: Spec, s: u16) -> bool
-    requires { 1 ≤ s }
-    ensures { result ≡ fits spec s }
+#[tactic(auto, unfolding(crate::specs::Even::fits))]
+fn fits_at(spec: Spec, s: NonZeroU16) -> bool
+    ensures { result ≡ fits spec (non_zero_u16_get s) }
 {
-    let supply = spec.supply;
-    let demand = spec.demand;
-    let m = count_at(demand, s);
-    let total = total_of(demand, spec.dmin, m);
-    demand_fits(demand, spec.dmax, m) & supply_fits(supply, s, m, total)
+    let Period { count, total } = period_at(spec, s);
+    demand_fits(spec.demand, spec.dmax, count) & supply_fits(spec.supply, s, count, total)
 }
 
 // The gap to try after s has failed.
-fn next_gap(demand: Rate, s: u16) -> u16
-    requires { 1 ≤ s }
-    ensures { result ≡ next_gap demand s }
+#[tactic(auto, unfolding(crate::specs::Search::next_gap))]
+fn next_gap(demand: Option<Rate>, s: NonZeroU16) -> Option<NonZeroU16>
+    ensures { gap_number result ≡ next_gap demand (non_zero_u16_get s) }
 {
-    match demand {
-        Rate::Absent => 0,
-        Rate::Present {
-            records: _,
-            minutes,
-        } => {
-            let p = minutes as u32;
-            (p / (p / (s as u32) + 1)) as u16
-        }
-    }
+    demand.and_then(|rate| {
+        // It fits, as is proved: `try_from` would bring an error that never comes.
+        let more = u32::from(rate.minutes / s) + 1;
+        NonZeroU16::new((u32::from(rate.minutes) / more) as u16)
+    })
 }
 
-// The longest gap from lo to hi that fits, 0 where none does. It tries about 2 × √P gaps at most, as do the searches of both ranges
-// together (`FewTries` of specs/Search.antt).
-fn gap_within(spec: Spec, lo: u16, hi: u16) -> u16
-    requires { 1 ≤ lo }
-    ensures { result ≡ even_gap_in spec lo hi }
+// The longest gap from lo to hi that fits. It tries about 2 × √P gaps at most, as do the searches of both ranges together (`FewTries` of
+// specs/Search.antt).
+#[tactic(auto, using(crate::proofs::Search::searching))]
+fn gap_within(spec: Spec, lo: u16, hi: u16) -> Option<NonZeroU16>
+    ensures { gap_number result ≡ even_gap_in spec lo hi }
 {
-    let demand = spec.demand;
-    let mut s = hi;
-    while lo <= s {
-        if fits_at(spec, s) {
-            return s;
+    // Each gap that fails says where the next one is, so that no range has them beforehand.
+    let mut next = NonZeroU16::new(hi);
+    while let Some(s) = next {
+        if s.get() < lo {
+            return None;
         }
-        s = next_gap(demand, s);
+        if fits_at(spec, s) {
+            return next;
+        }
+        next = next_gap(spec.demand, s);
     }
-    0
+    None
 }
 
 // The same of a range that may be absent.
-fn gap_of(spec: Spec, range: Range) -> u16
-    requires { range_limits 20160 range ≡ true }
-    ensures { result ≡ even_gap_of spec range }
+#[tactic(auto, unfolding(crate::specs::Search::even_gap_of))]
+fn gap_of(spec: Spec, range: Option<Range>) -> Option<NonZeroU16>
+    ensures { gap_number result ≡ even_gap_of spec range }
 {
-    match range {
-        Range::Absent => 0,
-        Range::Present { min, max } => gap_within(spec, min, max),
-    }
+    range.and_then(|range| gap_within(spec, range.min, range.max))
 }
 
-fn even_gap(spec: Spec) -> u16
-    requires { spec_number spec ≡ 0 }
-    ensures { result ≡ even_gap spec }
+fn even_gap(accepted: Accepted) -> Option<NonZeroU16>
+    ensures { gap_number result ≡ even_gap accepted.spec }
 {
-    let first = Range::Present {
+    let spec = accepted.spec;
+    let first = Range {
         min: spec.smin,
         max: spec.smax,
     };
-    let second = spec.second;
-    let s = gap_of(spec, second);
-    if s != 0 {
-        return s;
-    }
-    gap_of(spec, first)
+    gap_of(spec, spec.second).or_else(|| gap_of(spec, Some(first)))
 }
 
-fn plan_at(spec: Spec, s: u16) -> Plan
-    requires { 1 ≤ s }
-    ensures { result ≡ even_plan_at spec s }
+#[tactic(auto, unfolding(crate::specs::Even::even_plan_at))]
+fn plan_at(spec: Spec, s: NonZeroU16) -> Plan
+    ensures { result ≡ even_plan_at spec (non_zero_u16_get s) }
 {
-    let demand = spec.demand;
-    let m = count_at(demand, s);
-    let total = total_of(demand, spec.dmin, m);
+    let Period { count, total } = period_at(spec, s);
     Plan {
         kind: Kind::Even,
-        count: m as u32,
-        period: (m * (s as u64)) as u32,
-        total: total as u32,
+        count: u32::from(count),
+        period: u32::from(count) * u32::from(s.get()),
+        total,
     }
 }
 
-pub fn even_plan(spec: Spec) -> EvenPlan
-    ensures { result ≡ even_plan spec }
+#[tactic(auto, unfolding(crate::specs::Even::even_plan), using(spec::proofs::Refusals::handed_on))]
+pub fn even_plan(spec: Spec) -> Result<Plan, Refusal>
+    ensures { numbered result ≡ even_plan spec }
 {
-    let n = spec::spec_number(spec);
-    if n != 0 {
-        return EvenPlan::Refused(n);
-    }
-    let s = even_gap(spec);
-    if s == 0 {
-        return EvenPlan::Refused(refusal::NO_EVEN_PLAN);
-    }
-    EvenPlan::Found(plan_at(spec, s))
+    spec.check()?;
+    even_gap(Accepted { spec })
+        .map(|gap| plan_at(spec, gap))
+        .ok_or(Refusal::NoEvenPlan)
 }
 
 // The even plan of a specification file.
-pub fn even_of(bytes: &[u8]) -> EvenPlan
-    ensures { result ≡ even_of bytes.now }
+pub fn even_of(bytes: &[u8]) -> Result<Plan, Refusal>
+    ensures { numbered result ≡ even_of bytes.now }
 {
-    let read = spec::read_spec(bytes);
-    let SpecRead::Accepted(spec) = read else {
-        return EvenPlan::Refused(spec::read_number(read));
-    };
-    even_plan(spec)
+    even_plan(spec::read_spec(bytes)?)
 }
