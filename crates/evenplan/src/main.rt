@@ -3,129 +3,78 @@
 // what is read and written.
 #![tactic(auto)]
 
-ghost use Rattle.std.specs.Prelude.{ℕ, ◌+◌, ◌≤◌, ◌≡◌, List, [], ◌∷◌, length, take, IfOk, IfSome, OnOk};
+ghost use Rattle.std.specs.Prelude.{ℕ, ◌≤◌, ◌≡◌, List, length, take, Some, Ok, IfOk, IfSome, OnOk};
 ghost use Rattle.std.specs.Io.KnownBytes.{Appends, IsAtEnd};
+ghost use Rattle.spec.specs.Refusals.{numbered};
 ghost use Rattle.plan.specs.Reports.{report_of};
-ghost use Rattle.even.specs.declared.EvenPlan.TheVariants.{Found};
 ghost use Rattle.even.specs.Even.{even_of};
-ghost use Rattle.evenplan.specs.Text.{decimal, plan_text, report_text, refusal_line, plan_line, report_line, line_of, listing_of, Room, Grown, Holds};
+ghost use Rattle.evenplan.specs.Text.{plan_line, report_line, line_of, listing_of, text_of};
 
-use even::EvenPlan;
-use plan::{Plan, Reported};
-use std::io;
+use plan::{Plan, Report};
+use spec::refusal::Refusal;
 use std::io::{Read, Write};
+use std::{fmt, io};
 
-// A line of text as it grows. No line has more than 80 bytes, though each of its numbers had 20 digits.
+// A line of the answer, with its end: of a plan, of report `number` of one, or of a refusal.
 #[derive(Clone, Copy)]
-struct Line {
-    bytes: [u8; 80],
-    len: usize,
+enum Line {
+    Plan { gap: u32, count: u32, total: u32 },
+    Report { number: u32, report: Report },
+    Refused(Refusal),
 }
 
-impl Line {
-    fn new() -> Line
-        ensures { (result.len ≡ 0) × (Room result 80) }
-    {
-        Line {
-            bytes: [0u8; 80],
-            len: 0,
+impl fmt::Display for Line {
+    ghost output = { λ line. Some (text_of line) };
+
+    fn fmt<W: fmt::Write>(&self, f: &mut fmt::Formatter<W>) -> fmt::Result {
+        match *self {
+            Line::Plan { gap, count, total } => {
+                writeln!(f, "gap {gap} cycle {count} total {total}")
+            }
+            Line::Report { number, report } => {
+                let Report { minute, size } = report;
+                writeln!(f, "{number} {minute} {size}")
+            }
+            Line::Refused(refusal) => writeln!(f, "refused {}", refusal.number()),
         }
     }
-
-    fn byte(mut self, b: u8) -> Line
-        requires { Room self 1 }
-        ensures { Grown self (b ∷ []) result }
-    {
-        let at = self.len;
-        self.bytes[at] = b;
-        self.len = at + 1;
-        self
-    }
-
-    fn text(self, t: &[u8]) -> Line
-        requires { Room self (length t.now) }
-        ensures { Grown self t.now result }
-    {
-        let mut line = self;
-        for b in t {
-            line = line.byte(*b);
-        }
-        line
-    }
-
-    fn number(self, n: u64) -> Line
-        requires { Room self 20 }
-        ensures { (Grown self (decimal n) result) × (result.len ≤ self.len + 20) }
-    {
-        if n < 10 {
-            self.byte(b'0' + n as u8)
-        } else {
-            self.number(n / 10).byte(b'0' + (n % 10) as u8)
-        }
-    }
-}
-
-fn plan_text(gap: u32, count: u32, total: u32) -> Line
-    ensures { Holds result (plan_text gap count total) }
-{
-    Line::new()
-        .text(b"gap ")
-        .number(gap as u64)
-        .text(b" cycle ")
-        .number(count as u64)
-        .text(b" total ")
-        .number(total as u64)
-        .byte(b'\n')
-}
-
-fn report_text(i: u32, minute: u64, size: u32) -> Line
-    ensures { Holds result (report_text i minute size) }
-{
-    Line::new()
-        .number(i as u64)
-        .byte(b' ')
-        .number(minute)
-        .byte(b' ')
-        .number(size as u64)
-        .byte(b'\n')
-}
-
-fn refusal_line(n: u32) -> Line
-    ensures { Holds result (refusal_line n) }
-{
-    Line::new().text(b"refused ").number(n as u64).byte(b'\n')
 }
 
 // The first line of a plan.
 fn plan_line(p: Plan) -> Line
     requires { 1 ≤ p.count }
-    ensures { Holds result (plan_line p) }
+    ensures { text_of result ≡ plan_line p }
 {
-    plan_text(p.period / p.count, p.count, p.total)
+    Line::Plan {
+        gap: p.period / p.count,
+        count: p.count,
+        total: p.total,
+    }
 }
 
 // The line of report i.
 fn report_line(p: Plan, i: u32) -> Line
-    ensures { Holds result (report_line i (report_of p i)) }
+    ensures { text_of result ≡ report_line i (report_of p i) }
 {
-    match plan::report(p, i) {
-        Reported::At { minute, size } => report_text(i, minute, size),
-        Reported::Refused(n) => refusal_line(n),
+    match p.report(i) {
+        Ok(report) => Line::Report { number: i, report },
+        Err(refusal) => Line::Refused(refusal),
     }
 }
 
 // Writes line i of the answer to the file that begins with `front`. Nothing else here writes: a text that is no such line cannot be
 // handed over.
 fn write_line<W: Write>(out: &mut W, front: &[u8], i: u32, line: Line) -> io::Result<()>
-    requires { Holds line (line_of (even_of front.now) i) }
+    requires { text_of line ≡ line_of (even_of front.now) i }
     ensures { OnOk result (Appends (W.contents out.old) (W.contents out.new) (line_of (even_of front.now) i)) }
 {
-    out.write_all(&line.bytes[..line.len])
+    write!(out, "{line}")
 }
 
 // The plan's line, then those of the reports of one period.
+#[tactic(auto, using(crate::proofs::Lines::lines_more))]
 fn write_plan<W: Write>(out: &mut W, front: &[u8], p: Plan) -> io::Result<()>
-    requires { even_of front.now ≡ Found p }
+    requires { even_of front.now ≡ Ok p }
     ensures { OnOk result (Appends (W.contents out.old) (W.contents out.new) (listing_of (even_of front.now))) }
 {
     write_line(out, front, 0, plan_line(p))?;
@@ -136,6 +85,7 @@ fn write_plan<W: Write>(out: &mut W, front: &[u8], p: Plan) -> io::Result<()>
 }
 
 // Reads the front of the input, as many bytes as there are places for, or all of it where it has fewer. Tells how many they are.
+// (`read_exact` fails where there are fewer, and `io::copy` to the places doesn't say which bytes stand there then.)
 fn read_front<R: Read>(input: &mut R, places: &mut [u8]) -> io::Result<usize>
     ensures most { IfOk result (λ n. n ≤ length places.new) }
     ensures bytes { IfOk result (λ n. IfSome (R.remaining input.old) (λ bytes. take n places.new ≡ take (length places.old) bytes)) }
@@ -161,9 +111,10 @@ fn skip_rest<R: Read>(input: &mut R) -> io::Result<()>
 
 // The answer to every file of which these are the first 26 bytes. The longest specification file has 25, so 26 show that a file is
 // too long, whatever follows.
-fn answer_to(front: &[u8]) -> EvenPlan
-    ensures given { result ≡ even_of front.now }
-    ensures whole { (file : List ℕ) → front.now ≡ take 26 file → result ≡ even_of file }
+#[tactic(auto, using(crate::proofs::Front::even_of_front))]
+fn answer_to(front: &[u8]) -> Result<Plan, Refusal>
+    ensures given { numbered result ≡ even_of front.now }
+    ensures whole { (file : List ℕ) → front.now ≡ take 26 file → numbered result ≡ even_of file }
 {
     even::even_of(front)
 }
@@ -180,8 +131,8 @@ fn answer<R: Read, W: Write>(input: &mut R, out: &mut W) -> io::Result<()>
     let found = answer_to(front);
     skip_rest(input)?;
     match found {
-        EvenPlan::Found(p) => write_plan(out, front, p),
-        EvenPlan::Refused(number) => write_line(out, front, 0, refusal_line(number)),
+        Ok(p) => write_plan(out, front, p),
+        Err(refusal) => write_line(out, front, 0, Line::Refused(refusal)),
     }
 }
 

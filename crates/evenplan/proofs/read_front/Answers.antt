@@ -2,21 +2,13 @@
 use Prim.Native.Nat.{ℕ, ◌+◌, ◌-◌, ◌≤◌}
 use native.Mathlib.Omega.{arith}
 use mathlib.Core.Path.{◌≡◌, sym, ap, ◌∙◌}
-use mathlib.Core.List.{List, ◌++◌, append_assoc}
+use mathlib.Core.List.{List, ◌++◌}
 use lib.ListN.{length, take}
-use Rattle.std.specs.declared.option.Option.{Option}
-use Rattle.std.specs.Prelude.{None, Some}
-use Rattle.std.specs.Io.KnownBytes.{Consumes}
+use Rattle.std.proofs.KnownBytes.{Consumes-trans}
 use Rattle.std.proofs.Math.Seq.{take-append-add}
 use Rattle.std.proofs.lemmas.List.{take-append-le, length-take-le, length-append}
 use borrow.Rule.Slice.PartMut.{put_mid, post_of}
 use Rattle.evenplan.proofs.read_front.Goals as goal
-
-consumes_more : (old mid new : Option (List ℕ)) (bs cs : List ℕ) → Consumes old mid bs → Consumes mid new cs → Consumes old new (bs ++ cs)
-consumes_more None mid new bs cs d e = tt
-consumes_more (Some xs) None new bs cs d e = absurd d
-consumes_more (Some xs) (Some ys) None bs cs d e = absurd e
-consumes_more (Some xs) (Some ys) (Some zs) bs cs d e = d ∙ ap (λ (l : List ℕ). bs ++ l) e ∙ sym (append_assoc bs cs zs)
 
 placed_more : (read k n : ℕ) (places buf : List ℕ) → read ≤ length places → n ≤ length buf
     → take (read + n) (put_mid read k places buf) ≡ take read places ++ take n buf
@@ -36,5 +28,5 @@ loop-read-preserved g c =
     let few : n ≤ length buf = c.in_ok-n.ensures.bound.0 in (
       omega (arith, length-append (take read places) (buf ++ post_of read (length places - read) places), length-append buf (post_of read (length places - read) places), length-take-le read places c.loop-read.invariant.0, c.read.auto.buf),
       rw (placed_more read (length places - read) n places buf c.loop-read.invariant.0 few)
-          (consumes_more _ _ _ _ _ c.loop-read.invariant.1 c.in_ok-n.ensures.bytes.0),
+          (Consumes-trans _ _ _ _ _ c.loop-read.invariant.1 c.in_ok-n.ensures.bytes.0),
     )
