@@ -2,7 +2,6 @@ pub mod Fields
 pub mod OnePair
 pub mod PairByPair
 pub mod WholeFile
-pub mod PlainSteps
 pub mod OnePass
 pub mod ReadWords
 pub mod RoundTrip

@@ -6,11 +6,11 @@ use native.Mathlib.Omega.{arith}
 use mathlib.Core.List.{List}
 use lib.ListN.{length, take, length-take}
 use lib.Seq.{take_at}
+use Rattle.std.specs.Prelude.{Ok, Err}
 use Rattle.pairs.specs.declared.Pair.{Pair}
 use Rattle.pairs.specs.Pairs.{flatten, laid_over}
 use Rattle.pairs.proofs.FlatLists.{length_flatten}
-use Rattle.cyclefile.specs.declared.reading.CycleFile.TheVariants.{Pairs, Refused}
-use Rattle.cyclefile.specs.File.{pairs, refused, read_cycle, stored_pairs, file_answer}
+use Rattle.cyclefile.specs.File.{read_cycle, stored_pairs, file_answer}
 use Rattle.cyclefile.proofs.WholeFile.{counted, not_read, places_512}
 
 -- n pairs were read, and stand in front of the words
@@ -18,7 +18,7 @@ pub record FrontPairs (places : ℕ) (file words : List ℕ) (n : ℕ) : Type 0 
   pub ps : List Pair
   pub long : length ps ≡ n
   pub most : n ≤ 512
-  pub reads : read_cycle places file ≡ pairs ps
+  pub reads : read_cycle places file ≡ Ok ps
   pub front : take (2 * n) words ≡ flatten ps
 
 -- so there are as many words
@@ -29,7 +29,7 @@ module _ (places : ℕ) (file old : List ℕ) (array : length old ≡ 1024) wher
   pub array_places : read_cycle (min places (length old / 2)) file ≡ read_cycle places file
   array_places = rw array (places_512 places file)
 
-  pub words_read : {words : List ℕ} {n : ℕ} → Pairs n ≡ file_answer (read_cycle (min places (length old / 2)) file) → words ≡ laid_over (flatten (stored_pairs (min places (length old / 2)) file)) old → FrontPairs places file words n
+  pub words_read : {words : List ℕ} {n : ℕ} → Ok n ≡ file_answer (read_cycle (min places (length old / 2)) file) → words ≡ laid_over (flatten (stored_pairs (min places (length old / 2)) file)) old → FrontPairs places file words n
   words_read {words} {n} h w =
       let k = counted (min places (length old / 2)) file n h in
       record {
@@ -40,5 +40,5 @@ module _ (places : ℕ) (file old : List ℕ) (array : length old ≡ 1024) wher
         front = ap (take (2 * n)) (w ∙ ap (λ (qs : List Pair). laid_over (flatten qs) old) k.stores) ∙ take_at (flatten k.ps) _ (2 * n) (length_flatten k.ps ∙ ap (λ (m : ℕ). 2 * m) k.long);
       }
 
-  pub words_refused : {n : ℕ} → Refused n ≡ file_answer (read_cycle (min places (length old / 2)) file) → read_cycle places file ≡ refused n
+  pub words_refused : {n : ℕ} → Err n ≡ file_answer (read_cycle (min places (length old / 2)) file) → read_cycle places file ≡ Err n
   words_refused {n} h = sym array_places ∙ not_read (min places (length old / 2)) file n h

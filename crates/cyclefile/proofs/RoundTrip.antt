@@ -11,9 +11,10 @@ use lib.Dec.{ltb}
 use lib.ListN.{length, get_or, take, drop, length-append, take-append-drop}
 use lib.Seq.{drop-append_seam, drop-cons, take-add, get_or-drop}
 use borrow.Author.Tests.{eqb-true, eq-eqb, not-false, le-leb, ltb-false}
+use Rattle.std.specs.Prelude.{Option, None, Some, Ok}
 use Rattle.pairs.specs.declared.Pair.{Pair}
 use Rattle.spec.specs.File.{word}
-use Rattle.cyclefile.specs.File.{AreBytes, read_cycle, Before, none, behind, last_pair, stands, gap_stands, size_stands, map_byte, bytes_of, field_bytes, pair_bytes, pairs_bytes, cycle_bytes, pairs, has_gap, has_size, map_is_wrong, field_length, bytes_taken, pair_at, stands_in_vain, read_pair, read_pairs, Taken}
+use Rattle.cyclefile.specs.File.{AreBytes, read_cycle, last_pair, stands, gap_stands, size_stands, map_byte, bytes_of, field_bytes, pair_bytes, pairs_bytes, cycle_bytes, has_gap, has_size, map_is_wrong, field_length, bytes_taken, pair_at, stands_in_vain, read_pair, read_pairs, taken_pair}
 use Rattle.pairs.proofs.Counts.{count_in_true}
 use Rattle.cyclefile.proofs.OnePair.{took}
 use Rattle.cyclefile.proofs.OnePair as one
@@ -48,19 +49,19 @@ no_more_bits false true = refl
 no_more_bits false false = refl
 
 -- a field that is left out equals the one before
-left_out : (before : Before) (field : Pair → ℕ) (p : Pair) → stands before field p ≡ false → field (last_pair before) ≡ field p
-left_out none field p e = absurd (let z : ◌≡◌ {A = Bool} true false = e in let y : ◌≡◌ {A = ℕ} 0 1 = cc in omega arith)
-left_out (behind q) field p e = sym (eqb-true (field p) (field q) (not-false _ e))
+left_out : (before : Option Pair) (field : Pair → ℕ) (p : Pair) → stands before field p ≡ false → field (last_pair before) ≡ field p
+left_out None field p e = absurd (let z : ◌≡◌ {A = Bool} true false = e in let y : ◌≡◌ {A = ℕ} 0 1 = cc in omega arith)
+left_out (Some q) field p e = sym (eqb-true (field p) (field q) (not-false _ e))
 
 -- a first pair has both bits, and no pair has more
-map_right : (before : Before) (p : Pair) (g s : Bool) → gap_stands before p ≡ g → size_stands before p ≡ s → map_is_wrong before (map_byte g s) ≡ false
-map_right none p g s e f = rw (← e, ← f)
-map_right (behind q) p g s e f = no_more_bits g s
+map_right : (before : Option Pair) (p : Pair) (g s : Bool) → gap_stands before p ≡ g → size_stands before p ≡ s → map_is_wrong before (map_byte g s) ≡ false
+map_right None p g s e f = rw (← e, ← f)
+map_right (Some q) p g s e f = no_more_bits g s
 
 same_pair : (p : Pair) (g s : ℕ) → g ≡ p.gap → s ≡ p.size → record { gap = g; size = s } ≡ p
 same_pair p g s e f = ap (λ (k : ℕ). record { gap = k; size = s }) e ∙ ap (λ (k : ℕ). record { gap = p.gap; size = k }) f
 
-module _ (before : Before) (p : Pair) (rest : List ℕ) where
+module _ (before : Option Pair) (p : Pair) (rest : List ℕ) where
   -- the bytes of a pair of which g and s say what stands, and what follows them
   abbrev bytes_and : Bool → Bool → List ℕ
   bytes_and g s = map_byte g s ∷ ((field_bytes g p.gap ++ field_bytes s p.size) ++ rest)
@@ -77,7 +78,7 @@ module _ (before : Before) (p : Pair) (rest : List ℕ) where
   none_in_vain false true e f = rw f
   none_in_vain false false e f = refl
 
-  pair_read : read_pair before (pair_bytes before p ++ rest) ≡ Taken p (length (pair_bytes before p))
+  pair_read : read_pair before (pair_bytes before p ++ rest) ≡ Ok (taken_pair p (length (pair_bytes before p)))
   unfolding pair_bytes
   pair_read =
       let g = gap_stands before p in
@@ -87,17 +88,17 @@ module _ (before : Before) (p : Pair) (rest : List ℕ) where
       one.taken before (bytes_and g s) (λ z. omega arith) (map_right before p g s refl refl) (omega (arith, taken, length-append (pair_bytes before p) rest)) (rw back (none_in_vain g s refl refl)) ∙ rw (back, taken)
 
 -- the pairs of a cycle, and nothing behind them
-pairs_read : (before : Before) (ps : List Pair) → read_pairs (length ps) before (pairs_bytes before ps) ≡ pairs ps
+pairs_read : (before : Option Pair) (ps : List Pair) → read_pairs (length ps) before (pairs_bytes before ps) ≡ Ok ps
 unfolding read_pairs pairs_bytes
 pairs_read before [] = refl
-pairs_read before (p ∷ ps) = rw (pair_read before p (pairs_bytes (behind p) ps), drop-append_seam, pairs_read (behind p) ps)
+pairs_read before (p ∷ ps) = rw (pair_read before p (pairs_bytes (Some p) ps), drop-append_seam, pairs_read (Some p) ps)
 
 -- the file of every cycle of 1 to 512 pairs reads as that cycle, where the lent list has the places
-pub reads_back : (places : ℕ) (ps : List Pair) → 1 ≤ length ps → length ps ≤ 512 → length ps ≤ places → read_cycle places (cycle_bytes ps) ≡ pairs ps
+pub reads_back : (places : ℕ) (ps : List Pair) → 1 ≤ length ps → length ps ≤ 512 → length ps ≤ places → read_cycle places (cycle_bytes ps) ≡ Ok ps
 unfolding cycle_bytes
 reads_back places ps some most room =
     let n : word (cycle_bytes ps) 0 ≡ length ps = joined (length ps) in
-    (whole.pair_by_pair places (cycle_bytes ps) (omega arith) (rw (n, le-leb 1 (length ps) some, le-leb (length ps) 512 most)) (rw n room)).0 ∙ rw n (pairs_read none ps)
+    (whole.pair_by_pair places (cycle_bytes ps) (omega arith) (rw (n, le-leb 1 (length ps) some, le-leb (length ps) 512 most)) (rw n room)).0 ∙ rw n (pairs_read None ps)
 
 -- ---- what is read was written so
 
@@ -123,7 +124,7 @@ map_again (suc (suc (suc zero))) e = refl
 map_again (suc (suc (suc (suc m)))) e = absurd (let h = ltb-false 3 (suc (suc (suc (suc m)))) e in omega arith)
 
 or_false : (a b : Bool) → (a || b) ≡ false → (a ≡ false) × (b ≡ false)
-or_false true b e = absurd (let y : ◌≡◌ {A = ℕ} 0 1 = cc in omega arith)
+or_false true b e = cc
 or_false false b e = (refl, e)
 
 and_true_left : (a b : Bool) → (a && b) ≡ true → a ≡ true
@@ -132,22 +133,22 @@ and_true_left false b e = e
 
 and_true_right : (a b : Bool) → (a && b) ≡ true → b ≡ true
 and_true_right true b e = e
-and_true_right false b e = absurd (let y : ◌≡◌ {A = ℕ} 0 1 = cc in omega arith)
+and_true_right false b e = cc
 
 no_bytes : (b : List ℕ) → length b ≡ 0 → b ≡ []
 no_bytes [] e = refl
 no_bytes (x ∷ b) e = absurd (omega arith)
 
 -- a map byte that is not wrong: no bits above the second, and both below it in the first pair
-map_told : (before : Before) (m : ℕ) → map_is_wrong before m ≡ false → (ltb 3 m ≡ false) × (before ≡ none → (has_gap m && has_size m) ≡ true)
-map_told none m e = let k = or_false (ltb 3 m) (not (has_gap m && has_size m)) e in (k.0, λ z. not-false _ k.1)
-map_told (behind q) m e = (e, λ z. absurd (let y : ◌≡◌ {A = ℕ} 0 1 = cc in omega arith))
+map_told : (before : Option Pair) (m : ℕ) → map_is_wrong before m ≡ false → (ltb 3 m ≡ false) × (before ≡ None → (has_gap m && has_size m) ≡ true)
+map_told None m e = let k = or_false (ltb 3 m) (not (has_gap m && has_size m)) e in (k.0, λ z. not-false _ k.1)
+map_told (Some q) m e = (e, λ z. cc)
 
 -- a field that was read stands exactly where it should
-stands_right : (before : Before) (field : Pair → ℕ) (p : Pair) (t : Bool) (n : ℕ) → (before ≡ none → t ≡ true) → field p ≡ cond t n (field (last_pair before)) → (t && not (stands before field p)) ≡ false → stands before field p ≡ t
-stands_right none field p t n h e v = sym (h refl)
-stands_right (behind q) field p true n h e v = not-false _ v
-stands_right (behind q) field p false n h e v = ap not (eq-eqb (field p) (field q) e)
+stands_right : (before : Option Pair) (field : Pair → ℕ) (p : Pair) (t : Bool) (n : ℕ) → (before ≡ None → t ≡ true) → field p ≡ cond t n (field (last_pair before)) → (t && not (stands before field p)) ≡ false → stands before field p ≡ t
+stands_right None field p t n h e v = sym (h refl)
+stands_right (Some q) field p true n h e v = not-false _ v
+stands_right (Some q) field p false n h e v = ap not (eq-eqb (field p) (field q) e)
 
 first_byte : (b : List ℕ) → 1 ≤ length b → take 1 b ≡ get_or b 0 0 ∷ []
 first_byte [] h = absurd (omega arith)
@@ -162,7 +163,7 @@ bytes_kept b g s small long =
     ∙ ap (λ (l : List ℕ). get_or b 0 0 ∷ (l ++ take (field_length s) (drop (1 + field_length g) b))) (field_kept g b 1 small (omega arith))
     ∙ ap (λ (l : List ℕ). get_or b 0 0 ∷ (field_bytes g (word b 1) ++ l)) (field_kept s b (1 + field_length g) small long))
 
-pair_kept : (before : Before) (b : List ℕ) (p : Pair) (n : ℕ) → AreBytes b → read_pair before b ≡ Taken p n → pair_bytes before p ++ drop n b ≡ b
+pair_kept : (before : Option Pair) (b : List ℕ) (p : Pair) (n : ℕ) → AreBytes b → read_pair before b ≡ Ok (taken_pair p n) → pair_bytes before p ++ drop n b ≡ b
 unfolding pair_bytes
 pair_kept before b p n small h =
     let t = took before b p n h in
@@ -181,29 +182,29 @@ pair_kept before b p n small h =
     ∙ bytes_kept b (has_gap m) (has_size m) small t.long in
     ap (λ (r : Pair). pair_bytes before r ++ drop n b) t.pair_is ∙ ap (λ (l : List ℕ). l ++ drop n b) bytes ∙ ap (λ (k : ℕ). take k b ++ drop n b) (sym t.taken_is) ∙ take-append-drop n b
 
-pairs_kept : (k : ℕ) (before : Before) (b : List ℕ) (ps : List Pair) → AreBytes b → read_pairs k before b ≡ pairs ps → pairs_bytes before ps ≡ b
+pairs_kept : (k : ℕ) (before : Option Pair) (b : List ℕ) (ps : List Pair) → AreBytes b → read_pairs k before b ≡ Ok ps → pairs_bytes before ps ≡ b
 unfolding pairs_bytes
 pairs_kept zero before b ps small h = let e = ended before b ps h in rw e.1 (sym (no_bytes b e.0))
 pairs_kept (suc k) before b ps small h =
     let s = split before b k ps h in
-    let rest : pairs_bytes (behind s.head) s.tail ≡ drop s.taken b = pairs_kept k (behind s.head) (drop s.taken b) s.tail (λ i. rw get_or-drop (small (s.taken + i))) s.tail_read in
+    let rest : pairs_bytes (Some s.head) s.tail ≡ drop s.taken b = pairs_kept k (Some s.head) (drop s.taken b) s.tail (λ i. rw get_or-drop (small (s.taken + i))) s.tail_read in
     ap (pairs_bytes before) s.ps_is ∙ ap (λ (l : List ℕ). pair_bytes before s.head ++ l) rest ∙ pair_kept before b s.head s.taken small s.head_read
 
 -- a file that reads as a cycle is that cycle's file, so no two files read as one cycle
-pub writes_back : (places : ℕ) (file : List ℕ) (ps : List Pair) → AreBytes file → read_cycle places file ≡ pairs ps → cycle_bytes ps ≡ file
+pub writes_back : (places : ℕ) (file : List ℕ) (ps : List Pair) → AreBytes file → read_cycle places file ≡ Ok ps → cycle_bytes ps ≡ file
 unfolding cycle_bytes
 writes_back places file ps small h =
     let a = accepted places file ps h in
-    let n : length ps ≡ word file 0 = length_read (word file 0) none (drop 2 file) ps a.reads in
-    ap (λ (k : ℕ). bytes_of k ++ pairs_bytes none ps) n
-    ∙ ap (λ (l : List ℕ). bytes_of (word file 0) ++ l) (pairs_kept (word file 0) none (drop 2 file) ps (λ i. rw get_or-drop (small (2 + i))) a.reads)
+    let n : length ps ≡ word file 0 = length_read (word file 0) None (drop 2 file) ps a.reads in
+    ap (λ (k : ℕ). bytes_of k ++ pairs_bytes None ps) n
+    ∙ ap (λ (l : List ℕ). bytes_of (word file 0) ++ l) (pairs_kept (word file 0) None (drop 2 file) ps (λ i. rw get_or-drop (small (2 + i))) a.reads)
     ∙ ap (λ (l : List ℕ). l ++ drop 2 file) (sym (field_kept true file 0 small (rw zero-add a.long)))
     ∙ take-append-drop 2 file
 
 -- what is read is a cycle, and has its places
-pub reads_cycles : (places : ℕ) (file : List ℕ) (ps : List Pair) → read_cycle places file ≡ pairs ps → (1 ≤ length ps) × (length ps ≤ 512) × (length ps ≤ places)
+pub reads_cycles : (places : ℕ) (file : List ℕ) (ps : List Pair) → read_cycle places file ≡ Ok ps → (1 ≤ length ps) × (length ps ≤ 512) × (length ps ≤ places)
 reads_cycles places file ps h =
     let a = accepted places file ps h in
     let c = count_in_true (word file 0) a.counted in
-    let n : length ps ≡ word file 0 = length_read (word file 0) none (drop 2 file) ps a.reads in
+    let n : length ps ≡ word file 0 = length_read (word file 0) None (drop 2 file) ps a.reads in
     rw n (c.0, c.1, a.room)

@@ -3,26 +3,26 @@
 use mathlib.Core.Path.{◌≡◌, refl, sym, ◌∙◌}
 use Prim.Native.Nat.{ℕ, ◌≤◌, ◌<◌, min}
 use native.Mathlib.Omega.{arith}
-use mathlib.Core.Bool.{Bool, true, false, ◌||◌}
+use mathlib.Core.Bool.{Bool, true, false}
 use mathlib.Core.List.{List, []}
 use lib.Dec.{ltb}
 use lib.ListN.{length, drop}
 use borrow.Author.Tests.{lt-ltb, le-ltb, ltb-true, ltb-false}
+use Rattle.std.specs.Prelude.{None, Result, Ok, Err}
 use Rattle.spec.specs.File.{word}
 use Rattle.pairs.specs.declared.Pair.{Pair}
 use Rattle.pairs.specs.Pairs.{count_in, flatten, laid_over}
 use Rattle.pairs.proofs.Counts.{count_in_true}
-use Rattle.cyclefile.specs.declared.reading.CycleFile.TheVariants.{Pairs, Refused}
-use Rattle.cyclefile.specs.File.{none, CycleRead, pairs, refused, read_pairs, read_cycle, passed_pairs, stored_pairs, file_answer}
+use Rattle.cyclefile.specs.File.{read_pairs, read_cycle, passed_pairs, stored_pairs, file_answer}
 use Rattle.cyclefile.proofs.PairByPair.{length_read, passed_all}
 
 module _ (places : ℕ) (file : List ℕ) where
   -- a file that is refused before its first pair: nothing is stored
   abbrev pub RefusedAtOnce : ℕ → Type 0
-  RefusedAtOnce n = (read_cycle places file ≡ refused n) × (stored_pairs places file ≡ [])
+  RefusedAtOnce n = (read_cycle places file ≡ Err n) × (stored_pairs places file ≡ [])
 
   -- so the answer is the refusal, and the words are what they were
-  pub at_once : {n : ℕ} (words : List ℕ) → RefusedAtOnce n → (Refused n ≡ file_answer (read_cycle places file)) × (words ≡ laid_over (flatten (stored_pairs places file)) words)
+  pub at_once : {n : ℕ} (words : List ℕ) → RefusedAtOnce n → (Err n ≡ file_answer (read_cycle places file)) × (words ≡ laid_over (flatten (stored_pairs places file)) words)
   at_once words h = rw (h.0, h.1) (refl, refl)
 
   pub no_count : length file < 2 → RefusedAtOnce 18
@@ -39,24 +39,9 @@ module _ (places : ℕ) (file : List ℕ) where
       unfolding read_cycle stored_pairs
       few_places h = rw (le-ltb (length file) 2 long, counted, lt-ltb places (word file 0) h) (refl, refl)
 
-      pub pair_by_pair : word file 0 ≤ places → (read_cycle places file ≡ read_pairs (word file 0) none (drop 2 file)) × (stored_pairs places file ≡ passed_pairs (word file 0) none (drop 2 file))
+      pub pair_by_pair : word file 0 ≤ places → (read_cycle places file ≡ read_pairs (word file 0) None (drop 2 file)) × (stored_pairs places file ≡ passed_pairs (word file 0) None (drop 2 file))
       unfolding read_cycle stored_pairs
       pair_by_pair h = rw (le-ltb (length file) 2 long, counted, le-ltb places (word file 0) h) (refl, refl)
-
--- the smaller of two numbers of places, by the tests of both
-few_by : (a b n : ℕ) (t : Bool) → ltb a n ≡ t → (t || ltb b n) ≡ true → min a b < n
-few_by a b n true e h = let k = ltb-true a n e in omega arith
-few_by a b n false e h = let k = ltb-true b n h in omega arith
-
-pub few_of_two : (a b n : ℕ) → (ltb a n || ltb b n) ≡ true → min a b < n
-few_of_two a b n h = few_by a b n (ltb a n) refl h
-
-enough_by : (a b n : ℕ) (t : Bool) → ltb a n ≡ t → (t || ltb b n) ≡ false → n ≤ min a b
-enough_by a b n true e h = absurd (let z : ◌≡◌ {A = ℕ} 0 1 = cc in omega arith)
-enough_by a b n false e h = let j = ltb-false a n e in let k = ltb-false b n h in omega arith
-
-pub enough_of_two : (a b n : ℕ) → (ltb a n || ltb b n) ≡ false → n ≤ min a b
-enough_of_two a b n h = enough_by a b n (ltb a n) refl h
 
 -- how a file begins: one of the four
 pub data Beginning (places : ℕ) (file : List ℕ) : Type 0 where
@@ -80,22 +65,22 @@ pub record WholeRead (places : ℕ) (file : List ℕ) (ps : List Pair) : Type 0 
   pub long : 2 ≤ length file
   pub counted : count_in (word file 0) ≡ true
   pub room : word file 0 ≤ places
-  pub reads : read_pairs (word file 0) none (drop 2 file) ≡ pairs ps
+  pub reads : read_pairs (word file 0) None (drop 2 file) ≡ Ok ps
 
-accepted_by : (places : ℕ) (file : List ℕ) (ps : List Pair) → read_cycle places file ≡ pairs ps → Beginning places file → WholeRead places file ps
-accepted_by places file ps h (cut short) = absurd (let k = (no_count places file short).0 in let z : ◌≡◌ {A = ℕ} 0 1 = cc in omega arith)
-accepted_by places file ps h (miscounted long wrong) = absurd (let k = (bad_count places file long wrong).0 in let z : ◌≡◌ {A = ℕ} 0 1 = cc in omega arith)
-accepted_by places file ps h (crowded long right few) = absurd (let k = (few_places places file long right few).0 in let z : ◌≡◌ {A = ℕ} 0 1 = cc in omega arith)
+accepted_by : (places : ℕ) (file : List ℕ) (ps : List Pair) → read_cycle places file ≡ Ok ps → Beginning places file → WholeRead places file ps
+accepted_by places file ps h (cut short) = let k = (no_count places file short).0 in cc
+accepted_by places file ps h (miscounted long wrong) = let k = (bad_count places file long wrong).0 in cc
+accepted_by places file ps h (crowded long right few) = let k = (few_places places file long right few).0 in cc
 accepted_by places file ps h (begun long right room) = record { long = long; counted = right; room = room; reads = sym (pair_by_pair places file long right room).0 ∙ h }
 
-pub accepted : (places : ℕ) (file : List ℕ) (ps : List Pair) → read_cycle places file ≡ pairs ps → WholeRead places file ps
+pub accepted : (places : ℕ) (file : List ℕ) (ps : List Pair) → read_cycle places file ≡ Ok ps → WholeRead places file ps
 accepted places file ps h = accepted_by places file ps h (begins places file)
 
 -- whose pairs are all stored
-pub stored_all : (places : ℕ) (file : List ℕ) (ps : List Pair) → read_cycle places file ≡ pairs ps → stored_pairs places file ≡ ps
+pub stored_all : (places : ℕ) (file : List ℕ) (ps : List Pair) → read_cycle places file ≡ Ok ps → stored_pairs places file ≡ ps
 stored_all places file ps h =
     let a = accepted places file ps h in
-    (pair_by_pair places file a.long a.counted a.room).1 ∙ passed_all (word file 0) none (drop 2 file) ps a.reads
+    (pair_by_pair places file a.long a.counted a.room).1 ∙ passed_all (word file 0) None (drop 2 file) ps a.reads
 
 -- ---- what the answer tells
 
@@ -104,14 +89,14 @@ pub record Counted (places : ℕ) (file : List ℕ) (n : ℕ) : Type 0 where
   pub ps : List Pair
   pub long : length ps ≡ n
   pub most : n ≤ 512
-  pub reads : read_cycle places file ≡ pairs ps
+  pub reads : read_cycle places file ≡ Ok ps
   pub stores : stored_pairs places file ≡ ps
 
-counted_by : (places : ℕ) (file : List ℕ) (n : ℕ) (r : CycleRead) → read_cycle places file ≡ r → file_answer r ≡ Pairs n → Counted places file n
-counted_by places file n (pairs ps) e h =
+counted_by : (places : ℕ) (file : List ℕ) (n : ℕ) (r : Result (List Pair) ℕ) → read_cycle places file ≡ r → file_answer r ≡ Ok n → Counted places file n
+counted_by places file n (Ok ps) e h =
     let a = accepted places file ps e in
     let l : length ps ≡ n = cc in
-    let w : length ps ≡ word file 0 = length_read (word file 0) none (drop 2 file) ps a.reads in
+    let w : length ps ≡ word file 0 = length_read (word file 0) None (drop 2 file) ps a.reads in
     record {
       ps = ps;
       long = l;
@@ -119,16 +104,16 @@ counted_by places file n (pairs ps) e h =
       reads = e;
       stores = stored_all places file ps e;
     }
-counted_by places file n (refused m) e h = absurd (let z : ◌≡◌ {A = ℕ} 0 1 = cc in omega arith)
+counted_by places file n (Err m) e h = cc
 
-pub counted : (places : ℕ) (file : List ℕ) (n : ℕ) → Pairs n ≡ file_answer (read_cycle places file) → Counted places file n
+pub counted : (places : ℕ) (file : List ℕ) (n : ℕ) → Ok n ≡ file_answer (read_cycle places file) → Counted places file n
 counted places file n h = counted_by places file n (read_cycle places file) refl (sym h)
 
-refused_by : (r : CycleRead) (n : ℕ) → file_answer r ≡ Refused n → r ≡ refused n
-refused_by (pairs ps) n h = absurd (let z : ◌≡◌ {A = ℕ} 0 1 = cc in omega arith)
-refused_by (refused m) n h = cc
+refused_by : (r : Result (List Pair) ℕ) (n : ℕ) → file_answer r ≡ Err n → r ≡ Err n
+refused_by (Ok ps) n h = cc
+refused_by (Err m) n h = cc
 
-pub not_read : (places : ℕ) (file : List ℕ) (n : ℕ) → Refused n ≡ file_answer (read_cycle places file) → read_cycle places file ≡ refused n
+pub not_read : (places : ℕ) (file : List ℕ) (n : ℕ) → Err n ≡ file_answer (read_cycle places file) → read_cycle places file ≡ Err n
 not_read places file n h = refused_by (read_cycle places file) n (sym h)
 
 -- ---- more than 512 places change nothing, since no count is above 512

@@ -4,8 +4,9 @@ use native.Mathlib.Omega.{arith}
 use mathlib.Core.Bool.{Bool, true, false}
 use mathlib.Core.List.{List, [], ◌∷◌, ◌++◌}
 use lib.ListN.{length}
+use Rattle.std.specs.Prelude.{Option, None, Some}
 use Rattle.pairs.specs.declared.Pair.{Pair}
-use Rattle.cyclefile.specs.File.{AreBytes, Words, Before, none, behind, bytes_of, gap_stands, size_stands, map_byte, field_bytes, pair_bytes, pairs_bytes, cycle_bytes}
+use Rattle.cyclefile.specs.File.{AreBytes, Words, bytes_of, gap_stands, size_stands, map_byte, field_bytes, pair_bytes, pairs_bytes, cycle_bytes}
 
 no_bytes : AreBytes []
 no_bytes i = omega arith
@@ -31,7 +32,7 @@ map_small true false = omega arith
 map_small false true = omega arith
 map_small false false = omega arith
 
-pair_bytes_lem : (before : Before) (p : Pair) → p.gap < 65536 → p.size < 65536 → AreBytes (pair_bytes before p)
+pair_bytes_lem : (before : Option Pair) (p : Pair) → p.gap < 65536 → p.size < 65536 → AreBytes (pair_bytes before p)
 unfolding pair_bytes
 pair_bytes_lem before p g s =
     let gap = field_bytes (gap_stands before p) p.gap in
@@ -39,11 +40,11 @@ pair_bytes_lem before p g s =
     with_byte (map_byte (gap_stands before p) (size_stands before p)) (gap ++ size) (map_small (gap_stands before p) (size_stands before p))
     (and_bytes gap size (field_bytes_lem (gap_stands before p) p.gap g) (field_bytes_lem (size_stands before p) p.size s))
 
-all_bytes : (before : Before) (ps : List Pair) → Words ps → AreBytes (pairs_bytes before ps)
+all_bytes : (before : Option Pair) (ps : List Pair) → Words ps → AreBytes (pairs_bytes before ps)
 unfolding pairs_bytes
 all_bytes before [] w = no_bytes
-all_bytes before (p ∷ ps) w = and_bytes (pair_bytes before p) (pairs_bytes (behind p) ps) (pair_bytes_lem before p w.0 w.1.0) (all_bytes (behind p) ps w.1.1)
+all_bytes before (p ∷ ps) w = and_bytes (pair_bytes before p) (pairs_bytes (Some p) ps) (pair_bytes_lem before p w.0 w.1.0) (all_bytes (Some p) ps w.1.1)
 
 pub writes_bytes : (ps : List Pair) → length ps ≤ 512 → Words ps → AreBytes (cycle_bytes ps)
 unfolding cycle_bytes
-writes_bytes ps few w = and_bytes (bytes_of (length ps)) (pairs_bytes none ps) (number_bytes (length ps) (omega arith)) (all_bytes none ps w)
+writes_bytes ps few w = and_bytes (bytes_of (length ps)) (pairs_bytes None ps) (number_bytes (length ps) (omega arith)) (all_bytes None ps w)

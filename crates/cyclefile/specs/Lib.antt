@@ -1,2 +1,1 @@
 pub mod File
-pub mod InnerPromises

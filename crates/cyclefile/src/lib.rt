@@ -6,7 +6,14 @@
 pub mod reading;
 
 ghost use Rattle.std.specs.Prelude.{◌≡◌};
-ghost use Rattle.cyclefile.specs.File.{field_length};
+ghost use Rattle.cyclefile.specs.File.{differs, field_length};
+
+// Whether a field is to stand in the file: where it differs from that of the pair before, and in the first pair always.
+pub fn differs(before: Option<u16>, field: u16) -> bool
+    ensures { result ≡ differs before field }
+{
+    before != Some(field)
+}
 
 // How many bytes a field takes.
 pub fn field_length(stands: bool) -> usize

@@ -2,62 +2,55 @@
 // refused lends words of its own.
 mod steps;
 
-ghost use Rattle.std.specs.Prelude.{◌≡◌, ◌*◌, ◌/◌, ◌≤◌, min, length, drop};
+ghost use Rattle.std.specs.Prelude.{◌≡◌, ◌*◌, ◌/◌, ◌≤◌, None, min, length};
+ghost use Rattle.spec.specs.Refusals.{numbered};
 ghost use Rattle.pairs.specs.Pairs.{flatten, laid_over};
-ghost use Rattle.cyclefile.specs.File.{none, read_pairs, read_cycle, passed_pairs, stored_pairs, file_answer};
+ghost use Rattle.cyclefile.specs.File.{read_pairs, read_cycle, passed_pairs, stored_pairs, file_answer};
 
-use spec::refusal;
-use steps::step_at;
+use pairs::Pair;
+use spec::refusal::Refusal;
+use steps::{Taken, read_pair};
 
-// What reading a file gives: how many pairs it holds, or a refusal.
-#[derive(Clone, Copy)]
-pub enum CycleFile {
-    Pairs(usize),
-    Refused(u32),
-}
-
-// The pairs of a file, of which the count says how many there are. What is carried from pair to pair is plain numbers.
-fn read_pairs(file: &[u8], count: usize, words: &mut [u16]) -> CycleFile
-    requires { (2 ≤ length file.now) × (2 * count ≤ length words.old) }
-    ensures { (result ≡ file_answer (read_pairs count none (drop 2 file.now)))
-        × (words.new ≡ laid_over (flatten (passed_pairs count none (drop 2 file.now))) words.old) }
+// The pairs of a file, whose count says how many there are, from the bytes behind the count.
+fn read_pairs(bytes: &[u8], count: usize, words: &mut [u16]) -> Result<usize, Refusal>
+    requires { 2 * count ≤ length words.old }
+    ensures answer { numbered result ≡ file_answer (read_pairs count None bytes.now) }
+    ensures stored { words.new ≡ laid_over (flatten (passed_pairs count None bytes.now)) words.old }
 {
-    let mut at: usize = 2;
-    let mut gap: u16 = 0;
-    let mut size: u16 = 0;
-    let mut i: usize = 0;
-    while i < count {
-        let pair = step_at(file, at, i == 0, gap, size);
-        if pair.number != 0 {
-            return CycleFile::Refused(pair.number);
-        }
-        at = pair.at;
-        gap = pair.gap;
-        size = pair.size;
+    let mut rest = bytes;
+    let mut before = None;
+    for i in 0..count {
+        let Taken {
+            pair: Pair { gap, size },
+            bytes: taken,
+        } = read_pair(&before, rest)?;
+        rest = &rest[taken..];
+        // By the index: of words written through `as_chunks_mut` std doesn't say what they hold afterwards.
         words[2 * i] = gap;
         words[2 * i + 1] = size;
-        i += 1;
+        before = Some(Pair { gap, size });
     }
-    if at < file.len() {
-        return CycleFile::Refused(refusal::BYTES_OVER);
+    if !rest.is_empty() {
+        return Err(Refusal::BytesOver);
     }
-    CycleFile::Pairs(count)
+    Ok(count)
 }
 
 // Reads a file into lent words: gap, size, gap, size, .. There are as many places as asked for, but no more than the words hold.
-pub fn read(file: &[u8], places: usize, words: &mut [u16]) -> CycleFile
-    ensures { (result ≡ file_answer (read_cycle (min places (length words.old / 2)) file.now))
-        × (words.new ≡ laid_over (flatten (stored_pairs (min places (length words.old / 2)) file.now)) words.old) }
+#[tactic(auto, unfolding(crate::specs::File::read_cycle, crate::specs::File::stored_pairs))]
+pub fn read(file: &[u8], places: usize, words: &mut [u16]) -> Result<usize, Refusal>
+    ensures answer { numbered result ≡ file_answer (read_cycle (min places (length words.old / 2)) file.now) }
+    ensures stored { words.new ≡ laid_over (flatten (stored_pairs (min places (length words.old / 2)) file.now)) words.old }
 {
-    if file.len() < 2 {
-        return CycleFile::Refused(refusal::CUT);
-    }
-    let count = spec::two_bytes(file[0], file[1]) as usize;
+    let [high, low, bytes @ ..] = file else {
+        return Err(Refusal::Cut);
+    };
+    let count = usize::from(u16::from_be_bytes([*high, *low]));
     if !pairs::count_in(count) {
-        return CycleFile::Refused(refusal::COUNT);
+        return Err(Refusal::Count);
     }
-    if (places < count) | (words.len() / 2 < count) {
-        return CycleFile::Refused(refusal::NO_ROOM);
+    if places.min(words.len() / 2) < count {
+        return Err(Refusal::NoRoom);
     }
-    read_pairs(file, count, words)
+    read_pairs(bytes, count, words)
 }

@@ -1,11 +1,12 @@
 -- Laws of lists of pairs and of the flat lists that hold them. Assumes nothing.
 use mathlib.Core.Path.{◌≡◌, refl, sym, ap, ◌∙◌}
-use Prim.Native.Nat.{ℕ, zero, suc, ◌+◌, ◌*◌, ◌/◌, ◌<◌}
+use Prim.Native.Nat.{ℕ, zero, suc, ◌+◌, ◌*◌, ◌/◌, ◌≤◌, ◌<◌}
 use native.Mathlib.Numerals.{add-one}
 use native.Mathlib.Omega.{arith}
 use mathlib.Core.List.{List, [], ◌∷◌, ◌++◌}
 use lib.ListN.{length, get_or, take}
 use lib.Seq.{take-nil, take-suc}
+use Rattle.std.specs.Simd.{first_chunks}
 use Rattle.pairs.specs.declared.Pair.{Pair}
 use Rattle.pairs.specs.Pairs.{no_pair, flatten, pairs_of}
 
@@ -63,6 +64,15 @@ size_pairs_of (g ∷ s ∷ l) (suc j) = size_pairs_of l j ∙ ap (λ (k : ℕ). 
 
 pub pair_pairs_of : (l : List ℕ) (j : ℕ) → j < length l / 2 → get_or (pairs_of l) j no_pair ≡ record { gap = get_or l (2 * j) 0; size = get_or l (2 * j + 1) 0 }
 pair_pairs_of l j h = ap (λ (g : ℕ). record { gap = g; size = (get_or (pairs_of l) j no_pair).size }) (gap_pairs_of l j h) ∙ ap (λ (s : ℕ). record { gap = get_or l (2 * j) 0; size = s }) (size_pairs_of l j)
+
+-- so it is chunk j of two numbers
+pub chunk_pairs_of : (l : List ℕ) (n j : ℕ) → j < n → n ≤ length l / 2
+    → record { gap = get_or (get_or (first_chunks 2 n l) j []) 0 0; size = get_or (get_or (first_chunks 2 n l) j []) 1 0 } ≡ get_or (pairs_of l) j no_pair
+chunk_pairs_of l zero j h k = absurd (omega arith)
+chunk_pairs_of [] (suc n) j h k = absurd (omega arith)
+chunk_pairs_of (g ∷ []) (suc n) j h k = absurd (omega arith)
+chunk_pairs_of (g ∷ s ∷ l) (suc n) zero h k = refl
+chunk_pairs_of (g ∷ s ∷ l) (suc n) (suc j) h k = chunk_pairs_of l n j (omega arith) (omega (arith, half_suc (length l)))
 
 -- ---- parts
 

@@ -1,3 +1,2 @@
-pub mod Cursors
 pub mod StoredBytes
 pub mod WriteAnswers

@@ -2,72 +2,37 @@
 // a lent list of pairs is exported by `maxeltu`. Refusals 12 and 20.
 #![tactic(auto)]
 
-ghost use Rattle.std.specs.Prelude.{◌≡◌, ◌+◌, ◌/◌, ◌≤◌, ◌<◌, length, get_or};
+ghost use Rattle.std.specs.Prelude.{◌≡◌, ◌+◌, ◌/◌, ◌≤◌, None, IfOk, length};
 ghost use Rattle.std.proofs.lemmas.List.Edits.{sets};
-ghost use Rattle.pairs.specs.Pairs.{no_pair, pairs_of};
-ghost use Rattle.cyclefile.specs.File.{none, gap_stands, size_stands, field_length, map_byte, field_bytes, pair_bytes, pairs_bytes, cycle_bytes, Writes};
-ghost use Rattle.writer.specs.InnerPromises.{start, before_of, past};
+ghost use Rattle.spec.specs.Refusals.{answer_number};
+ghost use Rattle.pairs.specs.Pairs.{pairs_of};
+ghost use Rattle.cyclefile.specs.File.{gap_stands, size_stands, bytes_of, field_length, map_byte, field_bytes, pair_bytes, pairs_bytes, cycle_bytes, write_number, bytes_after};
 
-use cyclefile::field_length;
+use cyclefile::{differs, field_length};
 use pairs::Pair;
-use spec::refusal;
+use spec::refusal::Refusal;
 
-// Where writing stands: `at` bytes are passed, and `last` is the pair passed last, where the next is not the first.
-#[derive(Clone, Copy)]
-struct Cursor {
-    at: usize,
-    first: bool,
-    last: Pair,
+// Whether a pair's gap is to stand in the file, and whether its size is, after the pair before. (One function that is given the field would be
+// no plainer.)
+fn gap_stands(before: Option<Pair>, pair: Pair) -> bool
+    ensures { result ≡ gap_stands before pair }
+{
+    differs(before.map(|last| last.gap), pair.gap)
 }
 
-// Before the first pair, whose map byte follows the count.
-fn begin() -> Cursor
-    ensures { result ≡ start }
+fn size_stands(before: Option<Pair>, pair: Pair) -> bool
+    ensures { result ≡ size_stands before pair }
 {
-    Cursor {
-        at: 2,
-        first: true,
-        last: Pair { gap: 0, size: 0 },
-    }
+    differs(before.map(|last| last.size), pair.size)
 }
 
-// Whether a pair's gap is to stand in the file, and whether its size is.
-fn gap_stands(c: Cursor, pair: Pair) -> bool
-    ensures { result ≡ gap_stands (before_of c) pair }
+// How many bytes a pair takes in the file, after the one before.
+#[tactic(auto, using(cyclefile::proofs::Fields::length_pair_bytes))]
+fn pair_length(before: Option<Pair>, pair: Pair) -> usize
+    ensures length { result ≡ length (pair_bytes before pair) }
+    ensures most { result ≤ 5 }
 {
-    c.first | (pair.gap != c.last.gap)
-}
-
-fn size_stands(c: Cursor, pair: Pair) -> bool
-    ensures { result ≡ size_stands (before_of c) pair }
-{
-    c.first | (pair.size != c.last.size)
-}
-
-// Pair i of a flat slice.
-fn pair_in(words: &[u16], i: usize) -> Pair
-    requires { i < length words.now / 2 }
-    ensures { result ≡ get_or (pairs_of words.now) i no_pair }
-{
-    let at = 2 * i;
-    Pair {
-        gap: words[at],
-        size: words[at + 1],
-    }
-}
-
-// The cursor past a pair that is written.
-fn passed(c: Cursor, pair: Pair) -> Cursor
-    requires { c.at < 65536 }
-    ensures { result ≡ past c pair (length (pair_bytes (before_of c) pair)) }
-{
-    let gap = field_length(gap_stands(c, pair));
-    let size = field_length(size_stands(c, pair));
-    Cursor {
-        at: c.at + (1 + gap + size),
-        first: false,
-        last: pair,
-    }
+    1 + field_length(gap_stands(before, pair)) + field_length(size_stands(before, pair))
 }
 
 // How many bytes the file of a flat slice has.
@@ -75,89 +40,91 @@ fn file_length(words: &[u16]) -> usize
     requires { length words.now / 2 ≤ 512 }
     ensures { result ≡ length (cycle_bytes (pairs_of words.now)) }
 {
-    let count = words.len() / 2;
-    let mut c = begin();
-    let mut i: usize = 0;
-    while i < count {
-        c = passed(c, pair_in(words, i));
-        i += 1;
+    let mut length = 2;
+    let mut before = None;
+    for &[gap, size] in words.as_chunks::<2>().0 {
+        let pair = Pair { gap, size };
+        length += pair_length(before, pair);
+        before = Some(pair);
     }
-    c.at
+    length
 }
 
-// Stores a field that stands, high byte first; gives the place behind it.
+// Stores a number, high byte first.
+fn put_number(file: &mut [u8], at: usize, number: u16)
+    requires { at + 2 ≤ length file.old }
+    ensures { file.new ≡ sets file.old at (bytes_of number) }
+{
+    let [high, low] = number.to_be_bytes();
+    file[at] = high;
+    file[at + 1] = low;
+}
+
+// Stores a field that stands; gives the place behind it.
 fn put_field(file: &mut [u8], at: usize, stands: bool, field: u16) -> usize
     requires { at + field_length stands ≤ length file.old }
-    ensures { (result ≡ at + field_length stands) × (file.new ≡ sets file.old at (field_bytes stands field)) }
+    ensures end { result ≡ at + field_length stands }
+    ensures stored { file.new ≡ sets file.old at (field_bytes stands field) }
 {
     if stands {
-        file[at] = (field / 256) as u8;
-        file[at + 1] = (field % 256) as u8;
-        return at + 2;
+        put_number(file, at, field);
+        at + 2
+    } else {
+        at
     }
-    at
 }
 
 fn map_byte(gap: bool, size: bool) -> u8
     ensures { result ≡ map_byte gap size }
 {
-    if gap {
-        if size { 3 } else { 1 }
-    } else if size {
-        2
-    } else {
-        0
-    }
+    u8::from(gap) + 2 * u8::from(size)
 }
 
-// Stores a pair at a cursor.
-fn put_pair(file: &mut [u8], c: Cursor, pair: Pair) -> Cursor
-    requires { c.at + length (pair_bytes (before_of c) pair) ≤ length file.old }
-    ensures { (result ≡ past c pair (length (pair_bytes (before_of c) pair)))
-        × (file.new ≡ sets file.old c.at (pair_bytes (before_of c) pair)) }
+// Stores a pair, after the one before; gives the place behind it.
+#[tactic(auto, using(cyclefile::proofs::Fields::length_pair_bytes))]
+fn put_pair(file: &mut [u8], at: usize, before: Option<Pair>, pair: Pair) -> usize
+    requires { at + length (pair_bytes before pair) ≤ length file.old }
+    ensures end { result ≡ at + length (pair_bytes before pair) }
+    ensures stored { file.new ≡ sets file.old at (pair_bytes before pair) }
 {
-    let gap = gap_stands(c, pair);
-    let size = size_stands(c, pair);
-    let at = c.at;
+    let gap = gap_stands(before, pair);
+    let size = size_stands(before, pair);
     file[at] = map_byte(gap, size);
     let next = put_field(file, at + 1, gap, pair.gap);
-    let end = put_field(file, next, size, pair.size);
-    Cursor {
-        at: end,
-        first: false,
-        last: pair,
-    }
+    put_field(file, next, size, pair.size)
 }
 
 // Stores the pairs of a flat slice behind the count.
 fn put_pairs(words: &[u16], file: &mut [u8])
     requires { length (cycle_bytes (pairs_of words.now)) ≤ length file.old }
-    ensures { file.new ≡ sets file.old 2 (pairs_bytes none (pairs_of words.now)) }
+    ensures { file.new ≡ sets file.old 2 (pairs_bytes None (pairs_of words.now)) }
 {
-    let count = words.len() / 2;
-    let mut c = begin();
-    let mut i: usize = 0;
-    while i < count {
-        let pair = pair_in(words, i);
-        c = put_pair(file, c, pair);
-        i += 1;
+    let mut at = 2;
+    let mut before = None;
+    for &[gap, size] in words.as_chunks::<2>().0 {
+        let pair = Pair { gap, size };
+        at = put_pair(file, at, before, pair);
+        before = Some(pair);
     }
 }
 
-// Writes the cycle of a flat slice: gap, size, gap, size, .. Tells the length of the file where it is written.
-pub fn write(words: &[u16], file: &mut [u8], written: &mut u32) -> u32
-    ensures { Writes (pairs_of words.now) file.old written.old result file.new written.new }
+// Writes the cycle of a flat slice: gap, size, gap, size, .. Tells the length of the file where it is written: 2,562 bytes at most.
+pub fn write(words: &[u16], file: &mut [u8]) -> Result<usize, Refusal>
+    ensures number { answer_number result ≡ write_number (length file.old) (pairs_of words.now) }
+    ensures length { IfOk result (λ n. n ≡ length (cycle_bytes (pairs_of words.now))) }
+    ensures most { IfOk result (λ n. n ≤ 2562) }
+    ensures bytes { file.new ≡ bytes_after (pairs_of words.now) file.old }
 {
     let count = words.len() / 2;
     if !pairs::count_in(count) {
-        return refusal::COUNT;
+        return Err(Refusal::Count);
     }
     let length = file_length(words);
     if file.len() < length {
-        return refusal::NO_ROOM;
+        return Err(Refusal::NoRoom);
     }
-    put_field(file, 0, true, count as u16);
+    // It fits, as is proved: `try_from` would bring an error that never comes.
+    put_number(file, 0, count as u16);
     put_pairs(words, file);
-    *written = length as u32;
-    0
+    Ok(length)
 }

@@ -1,10 +1,19 @@
-// One pair of a cycle file, with plain numbers for the pair before.
-ghost use Rattle.std.specs.Prelude.{◌≡◌, ◌+◌, ◌≤◌, length, drop};
-ghost use Rattle.cyclefile.specs.File.{read_pair, has_gap, has_size, field_length, bytes_taken};
-ghost use Rattle.cyclefile.specs.InnerPromises.{before_is, wrong_here, field_of, in_vain, stopped_by, step_of};
+// One pair of a cycle file.
+ghost use Rattle.std.specs.Prelude.{◌≡◌, ◌+◌, ◌≤◌, IfOk, cond, length};
+ghost use Rattle.spec.specs.Refusals.{numbered};
+ghost use Rattle.spec.specs.File.{word};
+ghost use Rattle.cyclefile.specs.File.{read_pair, has_gap, has_size, map_is_wrong, stands_in_vain, last_pair, field_length, bytes_taken};
 
-use crate::field_length;
-use spec::refusal;
+use crate::{differs, field_length};
+use pairs::Pair;
+use spec::refusal::Refusal;
+
+// A pair that is read, and how many bytes it takes.
+#[derive(Clone, Copy)]
+pub(crate) struct Taken {
+    pub pair: Pair,
+    pub bytes: usize,
+}
 
 // A field of a pair, and the place behind it.
 #[derive(Clone, Copy)]
@@ -13,103 +22,108 @@ struct Field {
     end: usize,
 }
 
-// What one pair gives: the place behind it and its fields, where `number` is 0, or else a refusal.
+// The first byte of a pair: a bit for each of its fields that stands.
 #[derive(Clone, Copy)]
-pub(crate) struct Step {
-    pub number: u32,
-    pub at: usize,
-    pub gap: u16,
-    pub size: u16,
+struct PairMap(u8);
+
+impl PairMap {
+    // Two tests of a line each: one over the number of a bit would be no plainer.
+    fn has_gap(self) -> bool
+        ensures { result ≡ has_gap self.0 }
+    {
+        self.0 % 2 == 1
+    }
+
+    fn has_size(self) -> bool
+        ensures { result ≡ has_size self.0 }
+    {
+        self.0 / 2 % 2 == 1
+    }
+
+    // How many bytes a pair with this map takes: 1, 3 or 5.
+    fn bytes_taken(self) -> usize
+        ensures { result ≡ bytes_taken self.0 }
+    {
+        1 + field_length(self.has_gap()) + field_length(self.has_size())
+    }
+
+    // Whether bits 2 to 7 stand, or a first pair lacks a field.
+    fn is_wrong(self, before: &Option<Pair>) -> bool
+        ensures { result ≡ map_is_wrong before.now self.0 }
+    {
+        (3 < self.0) | (before.is_none() & !(self.has_gap() & self.has_size()))
+    }
+
+    // Whether a field stands that should be left out.
+    fn is_in_vain(self, before: &Option<Pair>, pair: Pair) -> bool
+        ensures { result ≡ stands_in_vain before.now self.0 pair }
+    {
+        (self.has_gap() & !differs(before.as_ref().map(|last| last.gap), pair.gap))
+            | (self.has_size() & !differs(before.as_ref().map(|last| last.size), pair.size))
+    }
 }
 
-fn has_gap(map: u8) -> bool
-    ensures { result ≡ has_gap map }
-{
-    map % 2 == 1
-}
-
-fn has_size(map: u8) -> bool
-    ensures { result ≡ has_size map }
-{
-    map / 2 % 2 == 1
-}
-
-// How many bytes a pair with this map takes: 1, 3 or 5.
-fn bytes_taken(map: u8) -> usize
-    ensures { result ≡ bytes_taken map }
-{
-    1 + field_length(has_gap(map)) + field_length(has_size(map))
-}
-
-// A field that stands at `at`, or the one before. One branch gives number and place, so that the next place is
-// known before the bytes are.
-fn take_field(file: &[u8], stands: bool, at: usize, before: u16) -> Field
-    requires { at + field_length stands ≤ length file.now }
-    ensures { result ≡ field_of file.now stands at before }
+// A field that stands at `at`, or the one before. One branch gives number and place, so that the next place is known before the bytes are.
+fn take_field(bytes: &[u8], stands: bool, at: usize, before: u16) -> Field
+    requires { at + field_length stands ≤ length bytes.now }
+    ensures number { result.number ≡ cond stands (word bytes.now at) before }
+    ensures end { result.end ≡ at + field_length stands }
 {
     if stands {
-        return Field {
-            number: spec::two_bytes(file[at], file[at + 1]),
+        Field {
+            number: u16::from_be_bytes([bytes[at], bytes[at + 1]]),
             end: at + 2,
-        };
-    }
-    Field {
-        number: before,
-        end: at,
-    }
-}
-
-fn map_is_wrong(first: bool, map: u8) -> bool
-    ensures { result ≡ wrong_here first map }
-{
-    (3 < map) | (first & !(has_gap(map) & has_size(map)))
-}
-
-// Whether a field stands that should be left out.
-fn in_vain(first: bool, stands: bool, number: u16, before: u16) -> bool
-    ensures { result ≡ in_vain first stands number before }
-{
-    stands & !(first | (number != before))
-}
-
-fn stopped(number: u32) -> Step
-    ensures { result ≡ stopped_by number }
-{
-    Step {
-        number,
-        at: 0,
-        gap: 0,
-        size: 0,
+        }
+    } else {
+        Field {
+            number: before,
+            end: at,
+        }
     }
 }
 
-// The pair at `at`, after one with the numbers `gap` and `size`, or the first.
-pub(crate) fn step_at(file: &[u8], at: usize, first: bool, gap: u16, size: u16) -> Step
-    requires { at ≤ length file.now }
-    ensures { result ≡ step_of at (read_pair (before_is first gap size) (drop at file.now)) }
+// What a field left out equals: no first pair that is read lacks one. (Taken apart, as the pair before is lent: see `read_pair`.)
+fn last_pair(before: &Option<Pair>) -> Pair
+    ensures { result ≡ last_pair before.now }
 {
-    let left = file.len() - at;
-    if left == 0 {
-        return stopped(refusal::CUT);
+    match before {
+        Some(last) => Pair {
+            gap: last.gap,
+            size: last.size,
+        },
+        None => Pair { gap: 0, size: 0 },
     }
-    let map = file[at];
-    if map_is_wrong(first, map) {
-        return stopped(refusal::PAIR_MAP);
+}
+
+// The pair that the bytes start with, after the one before. That is lent: handed over, its two numbers would be packed into one at each
+// pair, which takes longer.
+#[tactic(auto, unfolding(crate::specs::File::read_pair))]
+pub(crate) fn read_pair(before: &Option<Pair>, bytes: &[u8]) -> Result<Taken, Refusal>
+    ensures pair { numbered result ≡ read_pair before.now bytes.now }
+    ensures within { IfOk result (λ t. t.bytes ≤ length bytes.now) }
+{
+    let Some(first) = bytes.first() else {
+        return Err(Refusal::Cut);
+    };
+    let map = PairMap(*first);
+    if map.is_wrong(before) {
+        return Err(Refusal::PairMap);
     }
-    if left < bytes_taken(map) {
-        return stopped(refusal::CUT);
+    if bytes.len() < map.bytes_taken() {
+        return Err(Refusal::Cut);
     }
-    let with_gap = has_gap(map);
-    let with_size = has_size(map);
-    let g = take_field(file, with_gap, at + 1, gap);
-    let s = take_field(file, with_size, g.end, size);
-    if in_vain(first, with_gap, g.number, gap) | in_vain(first, with_size, s.number, size) {
-        return stopped(refusal::NOT_LEFT_OUT);
+    let last = last_pair(before);
+    let gap = take_field(bytes, map.has_gap(), 1, last.gap);
+    let size = take_field(bytes, map.has_size(), gap.end, last.size);
+    let pair = Pair {
+        gap: gap.number,
+        size: size.number,
+    };
+    if map.is_in_vain(before, pair) {
+        return Err(Refusal::NotLeftOut);
     }
-    Step {
-        number: 0,
-        at: s.end,
-        gap: g.number,
-        size: s.number,
-    }
+    Ok(Taken {
+        pair,
+        bytes: size.end,
+    })
 }

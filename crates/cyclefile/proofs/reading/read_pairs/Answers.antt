@@ -1,86 +1,35 @@
-use mathlib.Core.Path.{◌≡◌, refl, sym, ap, ◌∙◌}
-use Prim.Native.Nat.{ℕ, suc, ◌+◌, ◌-◌, zero-le}
-use native.Mathlib.Omega.{arith}
-use mathlib.Core.List.{List}
-use lib.ListN.{length-drop, length-set}
-use Rattle.cyclefile.specs.declared.reading.CycleFile.{CycleFile}
-use Rattle.cyclefile.proofs.OnePass.{Outcome, pass_whole, step_within, pass_next, pass_refused, pass_end, pass_over}
+use Rattle.std.proofs.Common.{◌≡◌, suc, ◌+◌, ◌-◌, arith}
+use mathlib.Core.Path.{sym, ◌∙◌}
+use Rattle.std.specs.Prelude.{Err}
+use Rattle.std.proofs.lemmas.Result.{err_from_is_err_and}
+use Rattle.spec.specs.Refusals.{number_of, numbered}
+use Rattle.cyclefile.proofs.OnePass.{whole_outcome, pass_pair, pass_stop, pass_end, pass_over, left_behind}
 use Rattle.cyclefile.proofs.reading.read_pairs.Goals as goal
 
--- the answer and the words, each by itself
-both : {a b : CycleFile} {l m : List ℕ} → ◌≡◌ {A = Outcome} (a, l) (b, m) → (a ≡ b) × (l ≡ m)
-both e = (ap (λ (x : Outcome). x.0) e, ap (λ (x : Outcome). x.1) e)
-
-pub loop-i-init : goal.loop-i-init
-loop-i-init c =
-    let e : c.args.count - 0 ≡ c.args.count = omega arith in
-    (zero-le, c.requires.0, refl, rw e)
-
-pub shape_of-words-then-pair-ne0 : goal.shape_of-words-then-pair-ne0
-shape_of-words-then-pair-ne0 c = c.loop-i.invariant.2
-
-pub returns-then-pair-ne0 : goal.returns-then-pair-ne0
-returns-then-pair-ne0 c =
-    let a = c.args in
+pub returns-in_err-gap : goal.returns-in_err-gap
+returns-in_err-gap c =
     let l = c.loop-i in
-    let e : a.count - l.i ≡ suc (a.count - (l.i + 1)) = omega arith in
-    both (sym (pass_refused a.file.now l.words l.i l.at l.gap l.size c.step_at-pair.ensures _ c.if-pair-ne0.true) ∙ rw e at l.invariant.3 ∙ pass_whole _ _ _ _ c.requires.1)
-
-pub overflow_mul-words : goal.overflow_mul-words
-overflow_mul-words c = omega arith
-
-pub offset_bounds-words-i : goal.offset_bounds-words-i
-offset_bounds-words-i c = omega arith
-
-pub bounds-words-i : goal.bounds-words-i
-bounds-words-i c = omega arith
-
-pub overflow_mul-words-in-loop-i : goal.overflow_mul-words-in-loop-i
-overflow_mul-words-in-loop-i c = omega arith
-
-pub overflow_add-words : goal.overflow_add-words
-overflow_add-words c = omega arith
-
-pub offset_bounds-words-i-in-loop-i : goal.offset_bounds-words-i-in-loop-i
-offset_bounds-words-i-in-loop-i c = omega arith
-
-pub bounds-words-i-in-loop-i : goal.bounds-words-i-in-loop-i
-bounds-words-i-in-loop-i c = rw length-set (omega arith)
-
-pub overflow_add-i : goal.overflow_add-i
-overflow_add-i c = omega arith
-
-pub loop-i-smaller : goal.loop-i-smaller
-loop-i-smaller c = omega arith
+    let e : c.args.count - l.i ≡ suc (c.args.count - (l.i + 1)) = omega arith in
+    let p = err_from_is_err_and c.from_residual.result c.from_residual.ensures.1 in
+    let told : numbered c.from_residual.result ≡ Err (number_of c.in_err-gap.field-0.0) = rw (rw p.2 at p.1) in
+    rw told (whole_outcome _ _ _ _ c.requires (sym (pass_stop l.words l.i l.before l.rest.now _ _ (sym c.in_err-gap.ensures.pair)) ∙ rw e at l.invariant))
 
 pub loop-i-preserved : goal.loop-i-preserved
 loop-i-preserved c =
-    let a = c.args in
     let l = c.loop-i in
-    let e : a.count - l.i ≡ suc (a.count - (l.i + 1)) = omega arith in (
-      omega arith,
-      step_within a.file.now l.words l.i l.at l.gap l.size c.step_at-pair.ensures c.if-pair-ne0.false l.invariant.1,
-      rw (length-set, length-set) l.invariant.2,
-      sym (pass_next a.file.now l.words l.i l.at l.gap l.size c.step_at-pair.ensures _ c.if-pair-ne0.false) ∙ rw e at l.invariant.3,
-    )
+    let t = c.in_ok-gap.field-0 in
+    let e : c.args.count - l.i ≡ suc (c.args.count - (l.i + 1)) = omega arith in
+    rw (left_behind t.bytes l.rest.now) (sym (pass_pair l.words l.i l.before l.rest.now _ t (sym c.in_ok-gap.ensures.pair)) ∙ rw e at l.invariant)
 
-pub shape_of-words-then-at-file : goal.shape_of-words-then-at-file
-shape_of-words-then-at-file c = c.loop-i.invariant.2
-
-pub returns-then-at-file : goal.returns-then-at-file
-returns-then-at-file c =
-    let a = c.args in
+pub returns-then-not-is_empty : goal.returns-then-not-is_empty
+returns-then-not-is_empty c =
     let l = c.loop-i in
-    let e : a.count - l.i ≡ 0 = omega arith in
-    both (sym (pass_over l.words l.i _ _ (λ z. let n = rw length-drop at z in omega arith)) ∙ rw e at l.invariant.3 ∙ pass_whole _ _ _ _ c.requires.1)
-
-pub shape_of-words : goal.shape_of-words
-shape_of-words c = c.loop-i.invariant.2
+    let e : c.args.count - l.i ≡ 0 = omega arith in
+    whole_outcome _ _ _ _ c.requires (sym (pass_over l.words l.i l.before l.rest.now (sym c.if-not-is_empty.ensures)) ∙ rw e at l.invariant)
 
 pub returns : goal.returns
 returns c =
-    let a = c.args in
     let l = c.loop-i in
-    let e : a.count - l.i ≡ 0 = omega arith in
-    let d : l.i ≡ a.count = omega arith in
-    both (rw (← d) (sym (pass_end l.words l.i _ _ (simp length-drop (omega arith)))) ∙ rw e at l.invariant.3 ∙ pass_whole _ _ _ _ c.requires.1)
+    let e : c.args.count - l.i ≡ 0 = omega arith in
+    let d : l.i ≡ c.args.count = omega arith in
+    whole_outcome _ _ _ _ c.requires (rw (← d) (sym (pass_end l.words l.i l.before l.rest.now (sym c.if-not-is_empty.ensures))) ∙ rw e at l.invariant)
