@@ -8,9 +8,9 @@ use mathlib.Core.Bool.{true, false}
 use lib.Dec.{leb}
 use lib.ListN.{length}
 use borrow.Author.Tests.{leb-false}
+use Rattle.std.specs.Prelude.{Option, None, Some}
 use Rattle.numbers.proofs.All.{some_fails}
 use Rattle.spec.specs.declared.Rate.{Rate}
-use Rattle.spec.specs.declared.Rate.TheVariants.{Absent, Present}
 use Rattle.spec.specs.declared.Spec.{Spec}
 use Rattle.spec.specs.Limits.{spec_number, IsAccepted}
 use Rattle.spec.proofs.Facts.{facts, size_allowed_iff, gap_allowed_pos}
@@ -51,18 +51,18 @@ pub size_refused : SizeRefused
 unfolding sizes_allowed
 size_refused spec ps e = some_fails _ (length ps) ((cycle_said spec ps).is_14 (cycle_own spec ps 14 (omega arith) (omega arith) e)).1
 
-pub too_full : (rate : Rate) (ps : List Pair) → supply_kept rate ps ≡ false → TooFull rate (stretch (cycle_run ps))
+pub too_full : (rate : Option Rate) (ps : List Pair) → supply_kept rate ps ≡ false → TooFull rate (stretch (cycle_run ps))
 unfolding supply_kept
-too_full Absent ps e = absurd (let z : ◌≡◌ {A = ℕ} 0 1 = cc in omega arith)
-too_full (Present b r) ps e =
-    let k = some_fails (λ a. leb (stretch (cycle_run ps) a r) b) (round ps) e in
+too_full None ps e = absurd (let z : ◌≡◌ {A = ℕ} 0 1 = cc in omega arith)
+too_full (Some x) ps e =
+    let k = some_fails (λ a. leb (stretch (cycle_run ps) a x.minutes) x.records) (round ps) e in
     (k.0, leb-false _ _ k.1.1)
 
-pub too_thin : (rate : Rate) (ps : List Pair) → demand_met rate ps ≡ false → TooThin rate (stretch (cycle_run ps))
+pub too_thin : (rate : Option Rate) (ps : List Pair) → demand_met rate ps ≡ false → TooThin rate (stretch (cycle_run ps))
 unfolding demand_met
-too_thin Absent ps e = absurd (let z : ◌≡◌ {A = ℕ} 0 1 = cc in omega arith)
-too_thin (Present l p) ps e =
-    let k = some_fails (λ a. leb l (stretch (cycle_run ps) a p)) (round ps) e in
+too_thin None ps e = absurd (let z : ◌≡◌ {A = ℕ} 0 1 = cc in omega arith)
+too_thin (Some x) ps e =
+    let k = some_fails (λ a. leb x.records (stretch (cycle_run ps) a x.minutes)) (round ps) e in
     (k.0, leb-false _ _ k.1.1)
 
 pub supply_refused : SupplyRefused

@@ -8,6 +8,7 @@ use mathlib.Core.Logic.{◌↔◌, ⊎_elim}
 use mathlib.Core.List.{List}
 use mathlib.Core.Bool.{Bool, true, false}
 use lib.ListN.{length}
+use Rattle.std.specs.Prelude.{Option}
 use Rattle.numbers.proofs.All.{some_fails}
 use Rattle.spec.specs.declared.Rate.{Rate}
 use Rattle.spec.specs.declared.Spec.{Spec}
@@ -71,7 +72,7 @@ module _ (spec : Spec) (lateness : ℕ) (ps : List Pair) (some : 1 ≤ length ps
   }
 
   module _ (later : (i : ℕ) → 1 ≤ (cycle_run ps).gap i) where
-    supply_decided : (rate : Rate) → rate_limits rate ≡ true → Decides (supply_kept (late_supply lateness rate) ps)
+    supply_decided : (rate : Option Rate) → rate_limits rate ≡ true → Decides (supply_kept (late_supply lateness rate) ps)
         (EveryDelay lateness (cycle_run ps) (λ t. SupplyKept rate (timed_stretch t)))
         (SomeDelay lateness (cycle_run ps) (λ t. TooFull rate (timed_stretch t)))
     supply_decided rate limits = record {
@@ -80,7 +81,7 @@ module _ (spec : Spec) (lateness : ℕ) (ps : List Pair) (some : 1 ≤ length ps
       apart = λ every broken. not_kept rate _ (every broken.0 broken.1.0) broken.1.1;
     }
 
-    demand_decided : (rate : Rate) → Decides (demand_met (late_demand lateness rate) ps)
+    demand_decided : (rate : Option Rate) → Decides (demand_met (late_demand lateness rate) ps)
         (EveryDelay lateness (cycle_run ps) (λ t. DemandMet rate (timed_stretch t)))
         (SomeDelay lateness (cycle_run ps) (λ t. TooThin rate (timed_stretch t)))
     demand_decided rate = record {

@@ -1,3 +1,4 @@
+pub mod Chunks
 pub mod Runs
 pub mod MovingWindow
 pub mod Starts

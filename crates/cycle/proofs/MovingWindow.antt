@@ -1,6 +1,6 @@
--- The laws of a window that moves over a schedule: it starts empty, takes one report more at its end, lets its first report go, and
+-- The laws of a window that moves over a schedule: it takes one report more at its end, lets its first report go, and
 -- once it reaches v minutes it holds what the v minutes from its first report hold.
-use Prim.Native.Nat.{ℕ, ◌+◌, ◌-◌, ◌*◌, ◌/◌, ◌≤◌, ◌<◌}
+use Prim.Native.Nat.{ℕ, ◌+◌, ◌-◌, ◌*◌, ◌≤◌, ◌<◌}
 use native.Mathlib.Omega.{arith}
 use mathlib.Core.Path.{◌≡◌, sym, ◌∙◌, ap}
 use mathlib.Core.Logic.{◌↔◌, ⊎_elim}
@@ -8,8 +8,7 @@ use mathlib.Core.List.{List}
 use lib.ListN.{length}
 use borrow.Author.Count.{below_more}
 use Rattle.numbers.proofs.Cases.{lt_cases}
-use Rattle.pairs.specs.Pairs.{pairs_of}
-use Rattle.pairs.proofs.FlatLists.{length_pairs_of}
+use Rattle.pairs.specs.declared.Pair.{Pair}
 use Rattle.schedule.specs.Schedules.{Schedule, sum, minute, stretch}
 use Rattle.schedule.proofs.Sums.{sum_more, sum_add, block}
 use Rattle.schedule.proofs.Stretches.{stretch_block}
@@ -17,26 +16,15 @@ use Rattle.schedule.proofs.Before.{minute_more, minute_mono, minute_least, minut
 use Rattle.schedule.proofs.Repeats.{minute_again}
 use Rattle.cycle.specs.declared.stretches.Parts.{Parts}
 use Rattle.cycle.specs.declared.stretches.Rule.{Rule}
-use Rattle.cycle.specs.declared.stretches.Report.{Report}
 use Rattle.cycle.specs.declared.stretches.Window.{Window}
-use Rattle.cycle.specs.Cycles.{round}
-use Rattle.cycle.specs.Windows.{run_of, Walkable, IsReport, IsParts, Spans, with_report, without_report, rule_passes}
+use Rattle.cycle.specs.Cycles.{cycle_run, round}
+use Rattle.cycle.specs.Windows.{Walkable, IsReport, IsParts, Spans, with_report, without_report, rule_passes}
 use Rattle.cycle.proofs.Runs.{gap_again}
 
 module _ (s : Schedule) (v : ℕ) where
-  pub spans_none : Spans s v (record { first = 0; past = 0; minutes = 0; records = 0 })
-  spans_none = record {
-    forward = omega arith;
-    minutes = omega arith;
-    records = omega arith;
-    inside = λ i h. absurd (omega arith);
-    minutes_fit = omega arith;
-    records_fit = omega arith;
-  }
-
-  module _ {w : Window} {x : Report} (h : Spans s v w) where
-    pub spans_with : IsReport s w.past x → w.minutes < v → Spans s v (with_report w x)
-    spans_with r q = record {
+  module _ {w : Window} {x : Pair} (h : Spans s v w) where
+    pub spans_with : IsReport s w.past x → (x.gap ≤ 65535) × (x.size ≤ 65535) → w.minutes < v → Spans s v (with_report w x)
+    spans_with r few q = record {
       forward = omega arith;
       minutes = rw (minute_more s w.past) (omega arith);
       records = rw (sum_more s.size w.past) (omega arith);
@@ -111,25 +99,24 @@ module _ (s : Schedule) (v : ℕ) where
         (λ q. absurd (omega (arith, minute_mono s (w.first + c) w.past q, a_round_on)))
         (lt_cases w.past (w.first + c))
 
--- on the pairs of a flat list, a window that starts in the first round
-module _ (l : List ℕ) (v : ℕ) {w : Window} (first_round : w.first < length l / 2) (short : v ≤ round (pairs_of l)) (h : Spans (run_of l) v w) where
-  pub past_fits : length l / 2 ≤ 512 → w.past ≤ 1024
+-- in the run of a cycle, a window that starts in the first round
+module _ (ps : List Pair) (v : ℕ) {w : Window} (first_round : w.first < length ps) (short : v ≤ round ps) (h : Spans (cycle_run ps) v w) where
+  pub past_fits : length ps ≤ 512 → w.past ≤ 1024
   unfolding round
-  past_fits few = omega (arith, length_pairs_of l, spans_most (run_of l) v (length (pairs_of l)) (gap_again (pairs_of l)) h short)
+  past_fits few = omega (arith, spans_most (cycle_run ps) v (length ps) (gap_again ps) h short)
 
-  pub next_place : w.minutes < v → w.past < 2 * (length l / 2)
+  pub next_place : w.minutes < v → w.past < 2 * length ps
   unfolding round
-  next_place less =
-      omega (arith, length_pairs_of l, spans_fewer (run_of l) v (length (pairs_of l)) (gap_again (pairs_of l)) h short less)
+  next_place less = omega (arith, spans_fewer (cycle_run ps) v (length ps) (gap_again ps) h short less)
 
 -- with the whole rounds, a window that reached the minutes left over holds what all the minutes hold
-module _ (l : List ℕ) (ok : Walkable l) (m : ℕ) {x : Parts} (parts : IsParts (pairs_of l) m x) {w : Window} (h : Spans (run_of l) x.rest w) (full : x.rest ≤ w.minutes) where
-  held_here : x.rounds + w.records ≡ stretch (run_of l) (minute (run_of l) w.first) m
-  held_here = rw (parts.adds (minute (run_of l) w.first), spans_stretch (run_of l) x.rest ok.later h full)
+module _ (ps : List Pair) (ok : Walkable ps) (m : ℕ) {x : Parts} (parts : IsParts ps m x) {w : Window} (h : Spans (cycle_run ps) x.rest w) (full : x.rest ≤ w.minutes) where
+  held_here : x.rounds + w.records ≡ stretch (cycle_run ps) (minute (cycle_run ps) w.first) m
+  held_here = rw (parts.adds (minute (cycle_run ps) w.first), spans_stretch (cycle_run ps) x.rest ok.later h full)
 
-  pub passes_here : (rule : Rule) {y : Report} → IsReport (run_of l) w.first y
-      → rule_passes rule (x.rounds + w.records) y.size ≡ rule_passes rule (stretch (run_of l) (minute (run_of l) w.first) m) ((run_of l).size w.first)
+  pub passes_here : (rule : Rule) {y : Pair} → IsReport (cycle_run ps) w.first y
+      → rule_passes rule (x.rounds + w.records) y.size ≡ rule_passes rule (stretch (cycle_run ps) (minute (cycle_run ps) w.first) m) ((cycle_run ps).size w.first)
   passes_here rule r = rw (held_here, r.size)
 
   pub first_there : w.first < w.past
-  first_there = spans_some (run_of l) x.rest ok.later h parts.some full
+  first_there = spans_some (cycle_run ps) x.rest ok.later h parts.some full

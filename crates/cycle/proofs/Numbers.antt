@@ -1,13 +1,10 @@
--- The number of a check by that of its specification, and by what reading the specification's file gave; and of a list that has too many
--- pairs. Both for reports on time and for late ones.
+-- The number of a check by that of its specification, and of a list that has too many pairs. Both for reports on time and for late ones.
 use Prim.Native.Nat.{ℕ}
 use mathlib.Core.Path.{◌≡◌, refl, sym}
 use mathlib.Core.Bool.{and-false}
 use mathlib.Core.List.{List}
+use Rattle.std.specs.Prelude.{Result, Ok, Err}
 use Rattle.spec.specs.declared.Spec.{Spec}
-use Rattle.spec.specs.declared.SpecRead.{SpecRead}
-use Rattle.spec.specs.declared.SpecRead.TheVariants.{Accepted, Refused}
-use Rattle.spec.specs.File.{if_read}
 use Rattle.spec.specs.Limits.{spec_number, IsAccepted}
 use Rattle.spec.proofs.GoingOn.{goes_on, stops}
 use Rattle.lateness.specs.Lateness.{lateness_number}
@@ -36,14 +33,6 @@ module _ (spec : Spec) (ps : List Pair) where
     unfolding late_number
     late_stops h = stops (lateness_number spec lateness) _ (λ n. n) h
 
--- a specification's file that is refused, that is accepted, where an operation goes on with f
-module _ {read : SpecRead} (f : Spec → ℕ) where
-  pub read_refused : {n : ℕ} → read ≡ Refused n → if_read read (λ s. 0) (λ m. m) ≡ if_read read f (λ m. m)
-  read_refused e = rw e
-
-  pub read_accepted : {spec : Spec} → read ≡ Accepted spec → f spec ≡ if_read read f (λ m. m)
-  read_accepted e = rw e
-
 -- more than 512 pairs get the number of none
 pub fit_check : (spec : Spec) (ps : List Pair) → check_number spec (that_fit 512 ps) ≡ check_number spec ps
 unfolding check_number cycle_number first_refusal
@@ -54,7 +43,7 @@ unfolding late_number late_cycle_number first_refusal
 fit_late spec lateness ps =
     fit_cases 512 ps (λ (qs : List Pair). late_number spec lateness qs ≡ late_number spec lateness ps) (λ e. refl) (λ e. rw (e, and-false))
 
-pub fit_late_number : (read : SpecRead) (lateness : ℕ) (ps : List Pair) → late_file_number read lateness (that_fit 512 ps) ≡ late_file_number read lateness ps
+pub fit_late_number : (read : Result Spec ℕ) (lateness : ℕ) (ps : List Pair) → late_file_number read lateness (that_fit 512 ps) ≡ late_file_number read lateness ps
 unfolding late_file_number
-fit_late_number (Accepted spec) lateness ps = fit_late spec lateness ps
-fit_late_number (Refused n) lateness ps = refl
+fit_late_number (Ok spec) lateness ps = fit_late spec lateness ps
+fit_late_number (Err n) lateness ps = refl

@@ -6,17 +6,14 @@ use mathlib.Core.Logic.{⊎_elim}
 use mathlib.Core.List.{List}
 use mathlib.Core.Bool.{Bool, true, false, and-eq-true_iff}
 use lib.ListN.{length}
+use Rattle.std.specs.Prelude.{Option, None, Some, Result, Ok, Err}
 use Rattle.numbers.proofs.All.{all_same}
 use Rattle.spec.specs.declared.Rate.{Rate}
-use Rattle.spec.specs.declared.Rate.TheVariants.{Absent, Present}
 use Rattle.spec.specs.declared.Spec.{Spec}
-use Rattle.spec.specs.declared.SpecRead.{SpecRead}
-use Rattle.spec.specs.declared.SpecRead.TheVariants.{Accepted, Refused}
 use Rattle.spec.specs.Limits.{rate_limits, spec_number, IsAccepted, size_allowed, gap_allowed}
 use Rattle.spec.proofs.Facts.{leb_iff, facts, gap_allowed_pos}
 use Rattle.spec.proofs.GoingOn.{none_or}
 use Rattle.lateness.specs.Lateness.{late_gap_allowed, late_supply}
-use Rattle.lateness.specs.declared.Planned.TheVariants.{Against, Refused as NotPlanned}
 use Rattle.lateness.specs.PlannedSpec.{planned_spec, planned_for}
 use Rattle.lateness.proofs.Begins.{begins_refused, begins_0, begins_iff, was_planned, was_refused}
 use Rattle.lateness.proofs.PlannedSpec.{near_iff, planned_gap, gap_on_time, supply_on_time, demand_on_time}
@@ -28,10 +25,10 @@ use Rattle.cycle.specs.Windows.{SomeMinutes, Judges}
 use Rattle.cycle.proofs.Numbers.{gets_refused, gets_cycle, late_goes_on, late_stops}
 
 -- an accepted specification can be judged by
-some_minutes : (rate : Rate) → rate_limits rate ≡ true → SomeMinutes rate
+some_minutes : (rate : Option Rate) → rate_limits rate ≡ true → SomeMinutes rate
 unfolding rate_limits
-some_minutes Absent h = tt
-some_minutes (Present b m) h = let k = simp (and-eq-true_iff, leb_iff) at h in omega arith
+some_minutes None h = tt
+some_minutes (Some x) h = let k = simp (and-eq-true_iff, leb_iff) at h in omega arith
 
 not_allowed : (spec : Spec) (g : ℕ) → ¬ (gap_allowed spec g ≡ true) → gap_allowed spec g ≡ false
 not_allowed spec g h = pick (gap_allowed spec g) refl
@@ -53,10 +50,10 @@ module _ (spec : Spec) (lateness : ℕ) (accepted : IsAccepted spec) where
   planned_number ps =
       rw (all_same (λ j. late_gap_allowed spec lateness (pair_gap ps j)) (λ j. gap_allowed (planned_spec spec lateness) (pair_gap ps j)) (length ps) (λ j. planned_gap spec accepted lateness (pair_gap ps j)))
 
-  longer : (rate : Rate) → rate_limits rate ≡ true → SomeMinutes (late_supply lateness rate)
+  longer : (rate : Option Rate) → rate_limits rate ≡ true → SomeMinutes (late_supply lateness rate)
   unfolding late_supply
-  longer Absent h = tt
-  longer (Present b r) h = let k : 1 ≤ r = some_minutes (Present b r) h in omega arith
+  longer None h = tt
+  longer (Some x) h = let k : 1 ≤ x.minutes = some_minutes (Some x) h in omega arith
 
   -- a gap of 0 is not allowed: on the way from -J to J it is 0
   pub planned_judges : Judges (planned_spec spec lateness)
@@ -69,17 +66,17 @@ module _ (spec : Spec) (lateness : ℕ) (accepted : IsAccepted spec) where
 
 -- so by what planned minutes must meet, or the refusal, goes the number
 module _ (spec : Spec) (lateness : ℕ) where
-  pub against_judges : (planned : Spec) → planned_for spec lateness ≡ Against planned → Judges planned
+  pub against_judges : (planned : Spec) → planned_for spec lateness ≡ Ok planned → Judges planned
   against_judges planned e =
       let k = was_planned spec lateness planned e in
       rw k.1 at (planned_judges spec lateness ((begins_iff spec lateness).0 k.0).0)
 
-  pub against_number : (planned : Spec) (ps : List Pair) → planned_for spec lateness ≡ Against planned → cycle_number planned ps ≡ late_number spec lateness ps
+  pub against_number : (planned : Spec) (ps : List Pair) → planned_for spec lateness ≡ Ok planned → cycle_number planned ps ≡ late_number spec lateness ps
   against_number planned ps e =
       let k = was_planned spec lateness planned e in
       sym (late_goes_on spec ps lateness k.0 ∙ rw k.1 at (planned_number spec lateness ((begins_iff spec lateness).0 k.0).0 ps))
 
-  pub refused_number : (n : ℕ) (ps : List Pair) → planned_for spec lateness ≡ NotPlanned n → n ≡ late_number spec lateness ps
+  pub refused_number : (n : ℕ) (ps : List Pair) → planned_for spec lateness ≡ Err n → n ≡ late_number spec lateness ps
   refused_number n ps e = let k = was_refused spec lateness n e in sym (late_stops spec ps lateness k.0 ∙ k.1)
 
 -- of the gaps from g to g there is one, and the rates are the given ones
@@ -97,7 +94,7 @@ on_time_same spec ps =
     late_stops spec ps 0 (λ e. refused (sym n ∙ e)) ∙ n ∙ gets_refused spec ps refused)
     (none_or (spec_number spec))
 
-pub on_time_number : (read : SpecRead) (ps : List Pair) → late_file_number read 0 ps ≡ check_file_number read ps
+pub on_time_number : (read : Result Spec ℕ) (ps : List Pair) → late_file_number read 0 ps ≡ check_file_number read ps
 unfolding late_file_number check_file_number
-on_time_number (Accepted spec) ps = on_time_same spec ps
-on_time_number (Refused n) ps = refl
+on_time_number (Ok spec) ps = on_time_same spec ps
+on_time_number (Err n) ps = refl

@@ -1,7 +1,6 @@
 -- The whole rounds in a stretch of a cycle's endless run: what any stretch holds, and how the check divides its minutes.
-use Prim.Native.Nat.{ℕ, ◌+◌, ◌-◌, ◌*◌, ◌/◌, ◌%◌, ◌^◌, ◌≤◌, ◌<◌}
-use native.Mathlib.Nat.{mod-lt, mod-le, div-le_self, le_trans, mul-le-mul}
-use native.Mathlib.Omega.{arith}
+use Prim.Native.Nat.{ℕ, ◌+◌, ◌-◌, ◌*◌, ◌/◌, ◌%◌, ◌≤◌, ◌<◌}
+use native.Mathlib.Nat.{mod-lt, div-le_self, le_trans, mul-le-mul}
 use mathlib.Core.Path.{◌≡◌}
 use mathlib.Core.List.{List}
 use lib.ListN.{length}
@@ -29,9 +28,3 @@ parts_add ps later t d minutes records m some a = rw (minutes, records) (stretch
 -- the numbers of the two parts fit
 pub rounds_most : (m t d : ℕ) → m ≤ 65536 → d ≤ 65535 * 512 → m / t * d ≤ 65536 * (65535 * 512)
 rounds_most m t d h k = mul-le-mul (le_trans (div-le_self m t) h) k
-
-pub rounds_fit : (m t d : ℕ) → m ≤ 65536 → d ≤ 65535 * 512 → m / t * d < 2 ^ 64
-rounds_fit m t d h k = omega (arith, rounds_most m t d h k)
-
-pub rest_fits : (m t k : ℕ) → m ≤ 65536 → k ≤ 1 → m % t + k < 2 ^ 64
-rest_fits m t k h one = omega (arith, mod-le m t)

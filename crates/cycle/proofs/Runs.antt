@@ -1,30 +1,30 @@
 -- The endless run of a cycle: its reports, that it repeats with the round, and what the tests of the check say of every start.
-use Prim.Native.Nat.{ℕ, zero, suc, ◌+◌, ◌-◌, ◌*◌, ◌/◌, ◌%◌, ◌≤◌, ◌<◌}
+use Prim.Native.Nat.{ℕ, ◌+◌, ◌-◌, ◌*◌, ◌/◌, ◌%◌, ◌≤◌, ◌<◌}
 use native.Mathlib.Omega.{arith}
-use native.Mathlib.Nat.{add-zero, add-mod_right, mod-eq_of_lt, mod-lt}
+use native.Mathlib.Nat.{add-mod_right, mod-eq_of_lt, mod-lt}
 use mathlib.Core.Path.{◌≡◌, refl, ◌∙◌, ap}
 use mathlib.Core.Logic.{◌↔◌}
-use mathlib.Core.List.{List}
+use mathlib.Core.List.{List, []}
 use mathlib.Core.Bool.{Bool, true}
 use lib.Dec.{leb}
 use lib.ListN.{length, get_or}
 use borrow.Author.Tests.{le-leb, leb-true}
+use Rattle.std.specs.Prelude.{Option, None, Some}
 use Rattle.numbers.specs.Numbers.{all}
 use Rattle.numbers.proofs.All.{all_right}
 use Rattle.spec.specs.declared.Rate.{Rate}
-use Rattle.spec.specs.declared.Rate.TheVariants.{Absent, Present}
 use Rattle.spec.specs.declared.Spec.{Spec}
 use Rattle.spec.specs.Limits.{size_allowed, gap_allowed}
 use Rattle.pairs.specs.declared.Pair.{Pair}
-use Rattle.pairs.specs.Pairs.{pairs_of}
-use Rattle.pairs.proofs.FlatLists.{length_pairs_of, gap_pairs_of, size_pairs_of}
+use Rattle.pairs.proofs.FlatLists.{length_pairs_of, size_pairs_of}
 use Rattle.schedule.specs.Schedules.{stretch}
 use Rattle.schedule.specs.Rules.{SizesAllowed, GapsAllowed, SupplyKept, DemandMet}
 use Rattle.schedule.proofs.Before.{minute_least}
 use Rattle.schedule.proofs.Repeats.{stretch_first}
 use Rattle.cycle.specs.Cycles.{pair_gap, pair_size, cycle_run, round}
 use Rattle.cycle.specs.Check.{gaps_allowed, sizes_allowed, supply_kept, demand_met}
-use Rattle.cycle.specs.Windows.{run_of, field}
+use Rattle.cycle.specs.Windows.{run_in, run_of}
+use Rattle.cycle.proofs.Chunks.{length_pairs_in, pair_of_chunk}
 
 -- of what repeats after c, all pass exactly when the first c do
 all_again : (f : ℕ → Bool) (c : ℕ) → 1 ≤ c → (all f c ≡ true) ↔ ((i : ℕ) → f (i % c) ≡ true)
@@ -78,36 +78,34 @@ module _ (ps : List Pair) where
       unfolding round
       first a w = stretch_first (cycle_run ps) later (length ps) size_again gap_again a w
 
-      pub supply_right : (r : Rate) → (supply_kept r ps ≡ true) ↔ SupplyKept r (stretch (cycle_run ps))
+      pub supply_right : (r : Option Rate) → (supply_kept r ps ≡ true) ↔ SupplyKept r (stretch (cycle_run ps))
       unfolding supply_kept
-      supply_right Absent = (λ e. tt, λ h. refl)
-      supply_right (Present b r) =
-          let k = all_again (λ a. leb (stretch (cycle_run ps) a r) b) (round ps) round_some in
-          (λ e a. rw (first a r) (leb-true _ _ (k.0 e a)), λ h. k.1 (λ a. le-leb _ _ (h (a % round ps))))
+      supply_right None = (λ e. tt, λ h. refl)
+      supply_right (Some x) =
+          let k = all_again (λ a. leb (stretch (cycle_run ps) a x.minutes) x.records) (round ps) round_some in
+          (λ e a. rw (first a x.minutes) (leb-true _ _ (k.0 e a)), λ h. k.1 (λ a. le-leb _ _ (h (a % round ps))))
 
-      pub demand_right : (r : Rate) → (demand_met r ps ≡ true) ↔ DemandMet r (stretch (cycle_run ps))
+      pub demand_right : (r : Option Rate) → (demand_met r ps ≡ true) ↔ DemandMet r (stretch (cycle_run ps))
       unfolding demand_met
-      demand_right Absent = (λ e. tt, λ h. refl)
-      demand_right (Present l p) =
-          let k = all_again (λ a. leb l (stretch (cycle_run ps) a p)) (round ps) round_some in
-          (λ e a. rw (first a p) (leb-true _ _ (k.0 e a)), λ h. k.1 (λ a. le-leb _ _ (h (a % round ps))))
-
--- field k of pair j in a flat list
-pub flat_field : (l : List ℕ) (k j : ℕ) → k < 2 → j < length l / 2 → field k (pairs_of l) j ≡ get_or l (2 * j + k) 0
-unfolding pair_gap pair_size
-flat_field l zero j few h = rw add-zero (gap_pairs_of l j h)
-flat_field l (suc zero) j few h = size_pairs_of l j
-flat_field l (suc (suc k)) j few h = absurd (omega arith)
+      demand_right None = (λ e. tt, λ h. refl)
+      demand_right (Some x) =
+          let k = all_again (λ a. leb x.records (stretch (cycle_run ps) a x.minutes)) (round ps) round_some in
+          (λ e a. rw (first a x.minutes) (leb-true _ _ (k.0 e a)), λ h. k.1 (λ a. le-leb _ _ (h (a % round ps))))
 
 -- report i of the endless run, at its pair's place j
-module _ (l : List ℕ) (i j : ℕ) (inside : j < length l / 2) (turned : i % (length l / 2) ≡ j) where
-  pub flat_gap : (run_of l).gap i ≡ get_or l (2 * j) 0
+module _ (xs : List (List ℕ)) (i j : ℕ) (turned : i % length xs ≡ j) where
+  pub gap_in : get_or (get_or xs j []) 0 0 ≡ (run_in xs).gap i
   unfolding cycle_run pair_gap
-  flat_gap = rw (length_pairs_of l, turned) (gap_pairs_of l j inside)
+  gap_in = rw (length_pairs_in xs, turned, pair_of_chunk xs j)
 
-  pub flat_size : (run_of l).size i ≡ get_or l (2 * j + 1) 0
+  pub size_in : get_or (get_or xs j []) 1 0 ≡ (run_in xs).size i
   unfolding cycle_run pair_size
-  flat_size = rw (length_pairs_of l, turned) (size_pairs_of l j)
+  size_in = rw (length_pairs_in xs, turned, pair_of_chunk xs j)
+
+-- and in a flat list, as the crate `cost` bills it
+pub flat_size : (l : List ℕ) (i j : ℕ) → j < length l / 2 → i % (length l / 2) ≡ j → (run_of l).size i ≡ get_or l (2 * j + 1) 0
+unfolding cycle_run pair_size
+flat_size l i j inside turned = rw (length_pairs_of l, turned) (size_pairs_of l j)
 
 -- the place of report i, one of the first two rounds
 pub first_turn : (i c : ℕ) → i < c → i % c ≡ i

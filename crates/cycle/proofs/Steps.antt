@@ -1,64 +1,48 @@
 -- The number step by step: what each test that passed or failed makes of it, and which tests it says have passed or failed.
-use Prim.Native.Nat.{ℕ, ◌/◌, ◌≤◌}
+use Prim.Native.Nat.{ℕ, ◌≤◌}
 use native.Mathlib.Omega.{arith}
-use mathlib.Core.Path.{◌≡◌, refl, sym, ap}
+use mathlib.Core.Path.{◌≡◌, refl}
 use mathlib.Core.List.{List}
 use mathlib.Core.Bool.{Bool, true, false}
 use lib.ListN.{length}
 use Rattle.spec.specs.declared.Spec.{Spec}
-use Rattle.spec.specs.Limits.{between, gap_allowed}
+use Rattle.spec.specs.Limits.{gap_allowed}
 use Rattle.spec.proofs.Facts.{between_iff}
 use Rattle.pairs.specs.declared.Pair.{Pair}
-use Rattle.pairs.specs.Pairs.{count_in, pairs_of}
-use Rattle.pairs.proofs.FlatLists.{length_pairs_of}
-use Rattle.cycle.specs.Check.{gaps_allowed, sizes_allowed, first_refusal}
-use Rattle.cycle.specs.Windows.{Judges, fields_allowed, run_of, Walkable}
+use Rattle.pairs.specs.Pairs.{count_in}
+use Rattle.pairs.proofs.Counts.{count_in_true}
+use Rattle.cycle.specs.Cycles.{cycle_run}
+use Rattle.cycle.specs.Check.{gaps_allowed, first_refusal}
+use Rattle.cycle.specs.Windows.{Judges, Walkable}
 use Rattle.cycle.proofs.Runs.{gaps_right}
-
-pub count_flat : (l : List ℕ) → count_in (length l / 2) ≡ count_in (length (pairs_of l))
-count_flat l = ap count_in (sym (length_pairs_of l))
 
 pub count_right : (n : ℕ) → 1 ≤ n → n ≤ 512 → count_in n ≡ true
 count_right n some few = (between_iff 1 512 n).1 (some, few)
 
--- the two fields of the walk
-pub gaps_field : (spec : Spec) (ps : List Pair) → fields_allowed spec 0 ps ≡ gaps_allowed spec ps
-unfolding fields_allowed gaps_allowed
-gaps_field spec ps = refl
-
-pub sizes_field : (spec : Spec) (ps : List Pair) → fields_allowed spec 1 ps ≡ sizes_allowed spec ps
-unfolding fields_allowed sizes_allowed
-sizes_field spec ps = refl
-
 -- from the tests to the number
-module _ (count gaps sizes supply demand : Bool) where
-  pub gets_12 : count ≡ false → 12 ≡ first_refusal count gaps sizes supply demand
+module _ (count gaps sizes supply demand : Bool) (counted : count ≡ true) where
+  pub gets_13 : gaps ≡ false → 13 ≡ first_refusal count gaps sizes supply demand
   unfolding first_refusal
-  gets_12 h = rw h
+  gets_13 h = rw (counted, h)
 
-  module _ (counted : count ≡ true) where
-    pub gets_13 : gaps ≡ false → 13 ≡ first_refusal count gaps sizes supply demand
+  module _ (allowed : gaps ≡ true) where
+    pub gets_14 : sizes ≡ false → 14 ≡ first_refusal count gaps sizes supply demand
     unfolding first_refusal
-    gets_13 h = rw (counted, h)
+    gets_14 h = rw (counted, allowed, h)
 
-    module _ (allowed : gaps ≡ true) where
-      pub gets_14 : sizes ≡ false → 14 ≡ first_refusal count gaps sizes supply demand
+    module _ (sized : sizes ≡ true) where
+      pub gets_15 : supply ≡ false → 15 ≡ first_refusal count gaps sizes supply demand
       unfolding first_refusal
-      gets_14 h = rw (counted, allowed, h)
+      gets_15 h = rw (counted, allowed, sized, h)
 
-      module _ (sized : sizes ≡ true) where
-        pub gets_15 : supply ≡ false → 15 ≡ first_refusal count gaps sizes supply demand
+      module _ (kept : supply ≡ true) where
+        pub gets_16 : demand ≡ false → 16 ≡ first_refusal count gaps sizes supply demand
         unfolding first_refusal
-        gets_15 h = rw (counted, allowed, sized, h)
+        gets_16 h = rw (counted, allowed, sized, kept, h)
 
-        module _ (kept : supply ≡ true) where
-          pub gets_16 : demand ≡ false → 16 ≡ first_refusal count gaps sizes supply demand
-          unfolding first_refusal
-          gets_16 h = rw (counted, allowed, sized, kept, h)
-
-          pub gets_0 : demand ≡ true → 0 ≡ first_refusal count gaps sizes supply demand
-          unfolding first_refusal
-          gets_0 h = rw (counted, allowed, sized, kept, h)
+        pub gets_0 : demand ≡ true → 0 ≡ first_refusal count gaps sizes supply demand
+        unfolding first_refusal
+        gets_0 h = rw (counted, allowed, sized, kept, h)
 
 -- and from the number to the tests
 pub record Said (n : ℕ) (count gaps sizes supply demand : Bool) : Type 0 where
@@ -97,9 +81,9 @@ judged_later spec none g e =
     let some : ¬ (g ≡ 0) = λ z. let zero = rw z at e in absurd (let y : ◌≡◌ {A = ℕ} 0 1 = cc in omega arith) in
     omega arith
 
--- a flat list that got as far as its stretches
-pub walkable : (spec : Spec) (l : List ℕ) → Judges spec → between 1 512 (length l / 2) ≡ true → gaps_allowed spec (pairs_of l) ≡ true → Walkable l
-walkable spec l judges count gaps =
-    let k = (between_iff 1 512 (length l / 2)).0 count in
-    let allowed = (gaps_right (pairs_of l) (omega (arith, length_pairs_of l)) spec).0 gaps in
-    record { some = k.0; few = k.1; later = λ i. judged_later spec judges.gaps ((run_of l).gap i) (allowed i) }
+-- pairs that got as far as their stretches
+pub walkable : (spec : Spec) (ps : List Pair) → Judges spec → count_in (length ps) ≡ true → gaps_allowed spec ps ≡ true → Walkable ps
+walkable spec ps judges count gaps =
+    let k = count_in_true (length ps) count in
+    let allowed = (gaps_right ps k.0 spec).0 gaps in
+    record { some = k.0; few = k.1; later = λ i. judged_later spec judges.gaps ((cycle_run ps).gap i) (allowed i) }

@@ -1,12 +1,10 @@
 -- Document 01, "Checking a cycle: 12 count 0 or above 512; 13 some gap out of range; 14 some size; 15 some R minutes too full; 16 some
 -- P minutes too thin", after 3, 4 and 24, with which every operation on a specification begins. "A refusal yields its number, the first
 -- that applies"; "a cycle is passed when its check gives no refusal number".
-use Rattle.std.specs.Prelude.{ℕ, List, Bool, true, cond, leb, length}
+use Rattle.std.specs.Prelude.{ℕ, List, Bool, true, cond, leb, length, Option, None, Some, Result}
 use Rattle.numbers.specs.Numbers.{all}
 use Rattle.spec.specs.declared.Rate.{Rate}
-use Rattle.spec.specs.declared.Rate.TheVariants.{Absent, Present}
 use Rattle.spec.specs.declared.Spec.{Spec}
-use Rattle.spec.specs.declared.SpecRead.{SpecRead}
 use Rattle.spec.specs.File.{if_read}
 use Rattle.spec.specs.Limits.{if_accepted, size_allowed, gap_allowed}
 use Rattle.pairs.specs.declared.Pair.{Pair}
@@ -24,13 +22,13 @@ sizes_allowed spec ps = all (λ j. size_allowed spec (pair_size ps j)) (length p
 
 -- "each stretch of R minutes holds at most B records; each of P minutes holds at least L", over the endless repetition. Stretches
 -- start at every minute of one round, and end wherever they end: the run repeats with the round, so those are all.
-unfoldable pub supply_kept : Rate → List Pair → Bool
-supply_kept Absent ps = true
-supply_kept (Present b r) ps = all (λ a. leb (stretch (cycle_run ps) a r) b) (round ps)
+unfoldable pub supply_kept : Option Rate → List Pair → Bool
+supply_kept None ps = true
+supply_kept (Some x) ps = all (λ a. leb (stretch (cycle_run ps) a x.minutes) x.records) (round ps)
 
-unfoldable pub demand_met : Rate → List Pair → Bool
-demand_met Absent ps = true
-demand_met (Present l p) ps = all (λ a. leb l (stretch (cycle_run ps) a p)) (round ps)
+unfoldable pub demand_met : Option Rate → List Pair → Bool
+demand_met None ps = true
+demand_met (Some x) ps = all (λ a. leb x.records (stretch (cycle_run ps) a x.minutes)) (round ps)
 
 -- the first of 12 to 16 that applies, or 0: by whether the count, the gaps, the sizes, the supply rate and the demand rate are right
 unfoldable pub first_refusal : (count gaps sizes supply demand : Bool) → ℕ
@@ -45,5 +43,5 @@ unfoldable pub check_number : Spec → List Pair → ℕ
 check_number spec ps = if_accepted spec (cycle_number spec ps) (λ n. n)
 
 -- the same given a specification's file: 1 to 4 and 24 first
-unfoldable pub check_file_number : SpecRead → List Pair → ℕ
+unfoldable pub check_file_number : Result Spec ℕ → List Pair → ℕ
 check_file_number read ps = if_read read (λ spec. check_number spec ps) (λ n. n)

@@ -2,10 +2,9 @@
 -- planned one must be allowed"; "The numbers 13, 15 and 16 have the meaning of before, over some choice of delays"; "Turned away: 26 when J
 -- is above 1,440, after 24". The tests are of planned minutes; `late_numbers` of the demands' page says that with them each number has its
 -- meaning over every choice of delays.
-use Rattle.std.specs.Prelude.{ℕ, List, Bool, length}
+use Rattle.std.specs.Prelude.{ℕ, List, Bool, length, Result}
 use Rattle.numbers.specs.Numbers.{all}
 use Rattle.spec.specs.declared.Spec.{Spec}
-use Rattle.spec.specs.declared.SpecRead.{SpecRead}
 use Rattle.spec.specs.File.{if_read}
 use Rattle.lateness.specs.Lateness.{late_gap_allowed, late_supply, late_demand, if_late}
 use Rattle.pairs.specs.declared.Pair.{Pair}
@@ -29,5 +28,5 @@ unfoldable pub late_number : Spec → ℕ → List Pair → ℕ
 late_number spec lateness ps = if_late spec lateness (late_cycle_number spec lateness ps) (λ n. n)
 
 -- the same given a specification's file: 1 to 4 and 24 first
-unfoldable pub late_file_number : SpecRead → ℕ → List Pair → ℕ
+unfoldable pub late_file_number : Result Spec ℕ → ℕ → List Pair → ℕ
 late_file_number read lateness ps = if_read read (λ spec. late_number spec lateness ps) (λ n. n)

@@ -1,61 +1,54 @@
--- What the inner functions of the check say of one another: one walk over the gaps or the sizes, and a window of neighbouring reports
--- that moves over the endless run. None of it stands in the contract of a function that others call.
-use Rattle.std.specs.Prelude.{ℕ, zero, suc, ◌+◌, ◌-◌, ◌*◌, ◌/◌, ◌≤◌, ◌<◌, ◌≡◌, Bool, false, List, leb, length}
+-- What the inner functions of the check say of one another: a window of neighbouring reports that moves over the endless run. None of it
+-- stands in the contract of a function that others call.
+use Rattle.std.specs.Prelude.{ℕ, ◌+◌, ◌-◌, ◌*◌, ◌≤◌, ◌<◌, ◌≡◌, Bool, false, List, map, leb, length, get_or, Option, None, Some}
 use Rattle.numbers.specs.Numbers.{all}
 use Rattle.spec.specs.declared.Rate.{Rate}
-use Rattle.spec.specs.declared.Rate.TheVariants.{Absent, Present}
 use Rattle.spec.specs.declared.Spec.{Spec}
-use Rattle.spec.specs.Limits.{size_allowed, gap_allowed}
+use Rattle.spec.specs.Limits.{gap_allowed}
 use Rattle.pairs.specs.declared.Pair.{Pair}
 use Rattle.pairs.specs.Pairs.{pairs_of}
 use Rattle.schedule.specs.Schedules.{Schedule, sum, minute, stretch}
 use Rattle.cycle.specs.declared.stretches.Parts.{Parts}
-use Rattle.cycle.specs.declared.stretches.Report.{Report}
 use Rattle.cycle.specs.declared.stretches.Round.{Round}
 use Rattle.cycle.specs.declared.stretches.Rule.{Rule}
 use Rattle.cycle.specs.declared.stretches.Rule.TheVariants.{AtMost, AtLeast}
 use Rattle.cycle.specs.declared.stretches.Window.{Window}
-use Rattle.cycle.specs.Cycles.{pair_gap, pair_size, cycle_run, round, round_records}
+use Rattle.cycle.specs.Cycles.{cycle_run, round, round_records}
 
 -- What 12 to 16 can be judged by: no gap that is allowed is 0, and R minutes are a minute at least. An accepted specification is of this
 -- kind, and so is what planned minutes must meet.
-abbrev pub SomeMinutes : Rate → Type 0
-SomeMinutes Absent = Unit {0}
-SomeMinutes (Present records minutes) = 1 ≤ minutes
+abbrev pub SomeMinutes : Option Rate → Type 0
+SomeMinutes None = Unit {0}
+SomeMinutes (Some x) = 1 ≤ x.minutes
 
 pub record Judges (spec : Spec) : Type 0 where
   pub gaps : gap_allowed spec 0 ≡ false
   pub supply : SomeMinutes spec.supply
 
--- A pair's fields by their place in it: its gap is field 0, its size field 1. Field k of pair j, and whether it may be x.
-abbrev pub field : ℕ → List Pair → ℕ → ℕ
-field zero ps j = pair_gap ps j
-field (suc k) ps j = pair_size ps j
-
-abbrev pub field_allowed : Spec → ℕ → ℕ → Bool
-field_allowed spec zero x = gap_allowed spec x
-field_allowed spec (suc k) x = size_allowed spec x
-
--- field k of every pair is in range: the gaps' test is that of field 0, the sizes' that of field 1
-unfoldable pub fields_allowed : Spec → ℕ → List Pair → Bool
-fields_allowed spec k ps = all (λ j. field_allowed spec k (field k ps j)) (length ps)
-
 -- the endless run of the pairs that a flat list holds
 abbrev pub run_of : List ℕ → Schedule
 run_of l = cycle_run (pairs_of l)
 
--- a flat list that holds 1 to 512 pairs, none with a gap of 0
-pub record Walkable (l : List ℕ) : Type 0 where
-  pub some : 1 ≤ length l / 2
-  pub few : length l / 2 ≤ 512
-  pub later : (i : ℕ) → 1 ≤ (run_of l).gap i
+-- the pairs of a flat list that is cut into two numbers each, gap and size, and their endless run
+abbrev pub pair_in : List ℕ → Pair
+pair_in x = record { gap = get_or x 0 0; size = get_or x 1 0 }
 
--- x is report i of the schedule, in numbers of 16 bits
-pub record IsReport (s : Schedule) (i : ℕ) (x : Report) : Type 0 where
+abbrev pub pairs_in : List (List ℕ) → List Pair
+pairs_in xs = map pair_in xs
+
+abbrev pub run_in : List (List ℕ) → Schedule
+run_in xs = cycle_run (pairs_in xs)
+
+-- 1 to 512 pairs, none with a gap of 0
+pub record Walkable (ps : List Pair) : Type 0 where
+  pub some : 1 ≤ length ps
+  pub few : length ps ≤ 512
+  pub later : (i : ℕ) → 1 ≤ (cycle_run ps).gap i
+
+-- x is report i of the schedule
+pub record IsReport (s : Schedule) (i : ℕ) (x : Pair) : Type 0 where
   pub gap : x.gap ≡ s.gap i
   pub size : x.size ≡ s.size i
-  pub gap_fits : x.gap ≤ 65535
-  pub size_fits : x.size ≤ 65535
 
 -- x is the minutes and the records of one round
 pub record IsRound (ps : List Pair) (x : Round) : Type 0 where
@@ -83,10 +76,10 @@ pub record Spans (s : Schedule) (v : ℕ) (w : Window) : Type 0 where
   pub records_fit : w.records ≤ 65535 * w.past
 
 -- the window with one report more at its end, with its first report left out
-abbrev pub with_report : Window → Report → Window
+abbrev pub with_report : Window → Pair → Window
 with_report w x = record { first = w.first; past = w.past + 1; minutes = w.minutes + x.gap; records = w.records + x.size }
 
-abbrev pub without_report : Window → Report → Window
+abbrev pub without_report : Window → Pair → Window
 without_report w x = record { first = w.first + 1; past = w.past; minutes = w.minutes - x.gap; records = w.records - x.size }
 
 -- What a rule asks of minutes that start with a report of the given size and hold so many records. AtMost: they hold at most b.

@@ -1,16 +1,12 @@
 // A window of neighbouring reports that moves over the endless repetition: what each stretch that starts at a report of one round
 // holds, in one pass over the pairs.
-ghost use Rattle.std.specs.Prelude.{◌≡◌, ◌+◌, ◌*◌, ◌/◌, ◌%◌, ◌<◌, ◌≤◌, length};
-ghost use Rattle.pairs.specs.Pairs.{pairs_of};
+ghost use Rattle.std.specs.Prelude.{◌≡◌, ◌*◌, ◌<◌, ◌≤◌, length};
 ghost use Rattle.cycle.specs.Cycles.{round};
-ghost use Rattle.cycle.specs.Windows.{run_of, Walkable, IsReport, IsRound, IsParts, Spans, with_report, without_report, rule_passes, starts_pass};
+ghost use Rattle.cycle.specs.Check.{supply_kept, demand_met};
+ghost use Rattle.cycle.specs.Windows.{pairs_in, run_in, Walkable, SomeMinutes, IsReport, IsRound, IsParts, Spans, with_report, without_report, rule_passes, starts_pass};
 
-// One report: its size, and the gap to the next.
-#[derive(Clone, Copy)]
-struct Report {
-    gap: u64,
-    size: u64,
-}
+use pairs::Pair;
+use spec::Rate;
 
 // One round of a cycle. Its minutes need more than 16 bits.
 #[derive(Clone, Copy)]
@@ -26,11 +22,23 @@ struct Parts {
     rest: u64,
 }
 
-// What is asked of the stretches that start at a report.
+// What is asked of the stretches that start at a report. With a closure in its place each contract would have to say what that answers.
 #[derive(Clone, Copy)]
-pub(crate) enum Rule {
+enum Rule {
     AtMost(u16),
     AtLeast(u16),
+}
+
+impl Rule {
+    // Whether it passes where minutes that start with a report of this size hold so many records.
+    fn passes(self, held: u64, size: u16) -> bool
+        ensures { result ≡ rule_passes self held size }
+    {
+        match self {
+            Rule::AtMost(b) => held <= u64::from(b),
+            Rule::AtLeast(l) => u64::from(l) + u64::from(size) <= held,
+        }
+    }
 }
 
 // The reports from number `first` up to, not including, number `past`: the minutes from the one to the other, and the records held.
@@ -44,132 +52,134 @@ struct Window {
 
 impl Window {
     // One report more at the end.
-    fn with(self, x: Report) -> Window
-        requires { (self.past < 1024) × (self.minutes ≤ 65535 * self.past) × (self.records ≤ 65535 * self.past) × (x.gap ≤ 65535) × (x.size ≤ 65535) }
+    fn with(self, x: Pair) -> Window
+        requires { (self.past < 1024) × (self.minutes ≤ 65535 * self.past) × (self.records ≤ 65535 * self.past) }
         ensures { result ≡ with_report self x }
     {
         Window {
             first: self.first,
             past: self.past + 1,
-            minutes: self.minutes + x.gap,
-            records: self.records + x.size,
+            minutes: self.minutes + u64::from(x.gap),
+            records: self.records + u64::from(x.size),
         }
     }
 
     // The first report left out.
-    fn without(self, x: Report) -> Window
+    fn without(self, x: Pair) -> Window
         requires { (self.first < 1024) × (x.gap ≤ self.minutes) × (x.size ≤ self.records) }
         ensures { result ≡ without_report self x }
     {
         Window {
             first: self.first + 1,
             past: self.past,
-            minutes: self.minutes - x.gap,
-            records: self.records - x.size,
+            minutes: self.minutes - u64::from(x.gap),
+            records: self.records - u64::from(x.size),
         }
     }
 }
 
-pub(crate) fn wide(x: u16) -> u64
-    ensures { (result ≡ x) × (result ≤ 65535) }
-{
-    x as u64
+// A cycle over which stretches may be laid: 1 to 512 pairs, gap and size each, none with a gap of 0.
+#[derive(Clone, Copy)]
+pub(crate) struct Cycle<'a> {
+    pub(crate) pairs: &'a [[u16; 2]],
+    ghost walkable: { Walkable (pairs_in pairs.now) },
 }
 
-// The place in its round of report i, one of the first two rounds.
-fn place(i: usize, count: usize) -> usize
-    requires { i < 2 * count }
-    ensures { (result ≡ i % count) × (result < count) }
-{
-    if i < count { i } else { i - count }
-}
-
-// Report i of the endless repetition, one of its first two rounds.
-fn report_at(words: &[u16], i: usize) -> Report
-    requires { (i < 2 * (length words.now / 2)) × (length words.now / 2 ≤ 512) }
-    ensures { IsReport (run_of words.now) i result }
-{
-    let count = words.len() / 2;
-    let j = place(i, count);
-    Report {
-        gap: wide(words[2 * j]),
-        size: wide(words[2 * j + 1]),
+impl<'a> Cycle<'a> {
+    // Report i of the endless repetition, one of its first two rounds: its size, and the gap to the next.
+    fn report(&self, i: usize) -> Pair
+        requires { i < 2 * length self.now.pairs.now }
+        ensures { IsReport (run_in self.now.pairs.now) i result }
+    {
+        let count = self.pairs.len();
+        // A division would be done for every report that a window takes in.
+        let j = if i < count { i } else { i - count };
+        let [gap, size] = self.pairs[j];
+        Pair { gap, size }
     }
-}
 
-// The minutes and the records of one round.
-fn round_of(words: &[u16]) -> Round
-    requires { length words.now / 2 ≤ 512 }
-    ensures { IsRound (pairs_of words.now) result }
-{
-    let count = words.len() / 2;
-    let mut minutes: u64 = 0;
-    let mut records: u64 = 0;
-    let mut i: usize = 0;
-    while i < count {
-        let x = report_at(words, i);
-        minutes += x.gap;
-        records += x.size;
-        i += 1;
-    }
-    Round { minutes, records }
-}
-
-// The window with its end moved on to the first report that is v minutes or more after report `first`.
-fn filled(words: &[u16], window: Window, v: u64) -> Window
-    requires { Walkable words.now × (window.first < length words.now / 2) × (v ≤ round (pairs_of words.now)) × Spans (run_of words.now) v window }
-    ensures { (result.first ≡ window.first) × (v ≤ result.minutes) × Spans (run_of words.now) v result }
-{
-    let mut w = window;
-    while w.minutes < v {
-        let past = w.past;
-        w = w.with(report_at(words, past));
-    }
-    w
-}
-
-fn rule_passes(rule: Rule, held: u64, size: u64) -> bool
-    requires { size ≤ 65535 }
-    ensures { result ≡ rule_passes rule held size }
-{
-    match rule {
-        Rule::AtMost(b) => held <= wide(b),
-        Rule::AtLeast(l) => wide(l) + size <= held,
-    }
-}
-
-// The whole rounds in so many minutes, all but the last of them, so that 1 minute or more is left over.
-fn parts_of(words: &[u16], minutes: u64) -> Parts
-    requires { Walkable words.now × (1 ≤ minutes) × (minutes ≤ 65536) }
-    ensures { IsParts (pairs_of words.now) minutes result }
-{
-    let round = round_of(words);
-    Parts {
-        rounds: (minutes - 1) / round.minutes * round.records,
-        rest: (minutes - 1) % round.minutes + 1,
-    }
-}
-
-// Whether the rule passes at each report of one round, for the stretches of `minutes` minutes that start there.
-pub(crate) fn starts_pass(words: &[u16], rule: Rule, minutes: u64) -> bool
-    requires { Walkable words.now × (1 ≤ minutes) × (minutes ≤ 65536) }
-    ensures { result ≡ starts_pass rule minutes (pairs_of words.now) }
-{
-    let count = words.len() / 2;
-    let parts = parts_of(words, minutes);
-    let mut w = Window {
-        first: 0,
-        past: 0,
-        minutes: 0,
-        records: 0,
-    };
-    while w.first < count {
-        w = filled(words, w, parts.rest);
-        let x = report_at(words, w.first);
-        if !rule_passes(rule, parts.rounds + w.records, x.size) {
-            return false;
+    // The minutes and the records of one round.
+    fn round(&self) -> Round
+        ensures { IsRound (pairs_in self.now.pairs.now) result }
+    {
+        let mut minutes = 0;
+        let mut records = 0;
+        for &[gap, size] in self.pairs {
+            minutes += u64::from(gap);
+            records += u64::from(size);
         }
-        w = w.without(x);
+        Round { minutes, records }
     }
-    true
+
+    // The window with its end moved on to the first report that is v minutes or more after report `first`.
+    fn filled(&self, window: Window, v: u64) -> Window
+        requires { (window.first < length self.now.pairs.now) × (v ≤ round (pairs_in self.now.pairs.now)) × Spans (run_in self.now.pairs.now) v window }
+        ensures { (result.first ≡ window.first) × (v ≤ result.minutes) × Spans (run_in self.now.pairs.now) v result }
+    {
+        let mut w = window;
+        // How many reports it takes in their gaps say, one by one.
+        while w.minutes < v {
+            w = w.with(self.report(w.past));
+        }
+        w
+    }
+
+    // The whole rounds in so many minutes, all but the last of them, so that 1 minute or more is left over.
+    fn parts(&self, minutes: u64) -> Parts
+        requires { (1 ≤ minutes) × (minutes ≤ 65536) }
+        ensures { IsParts (pairs_in self.now.pairs.now) minutes result }
+    {
+        let round = self.round();
+        Parts {
+            rounds: (minutes - 1) / round.minutes * round.records,
+            rest: (minutes - 1) % round.minutes + 1,
+        }
+    }
+
+    // Whether the rule passes at each report of one round, for the stretches of `minutes` minutes that start there.
+    fn starts_pass(&self, rule: Rule, minutes: u64) -> bool
+        requires { (1 ≤ minutes) × (minutes ≤ 65536) }
+        ensures { result ≡ starts_pass rule minutes (pairs_in self.now.pairs.now) }
+    {
+        let parts = self.parts(minutes);
+        let mut w = Window {
+            first: 0,
+            past: 0,
+            minutes: 0,
+            records: 0,
+        };
+        // The window counts its first report itself: a `for` would count beside it.
+        while w.first < self.pairs.len() {
+            w = self.filled(w, parts.rest);
+            let x = self.report(w.first);
+            if !rule.passes(parts.rounds + w.records, x.size) {
+                return false;
+            }
+            w = w.without(x);
+        }
+        true
+    }
+
+    // The fullest stretches start at a report. (Of a closure that calls a method of `self` the check doesn't learn what it answers.)
+    #[tactic(auto, using(crate::proofs::Starts::supply_absent, crate::proofs::Starts::supply_present))]
+    pub(crate) fn keeps_supply(&self, rate: Option<Rate>) -> bool
+        requires { SomeMinutes rate }
+        ensures { result ≡ supply_kept rate (pairs_in self.now.pairs.now) }
+    {
+        match rate {
+            Some(x) => self.starts_pass(Rule::AtMost(x.records), u64::from(x.minutes)),
+            None => true,
+        }
+    }
+
+    // The thinnest stretches start one minute after a report: one minute more from the report on, less the report. (A `match`, as above.)
+    #[tactic(auto, using(crate::proofs::Starts::demand_absent, crate::proofs::Starts::demand_present))]
+    pub(crate) fn meets_demand(&self, rate: Option<Rate>) -> bool
+        ensures { result ≡ demand_met rate (pairs_in self.now.pairs.now) }
+    {
+        match rate {
+            Some(x) => self.starts_pass(Rule::AtLeast(x.records), u64::from(x.minutes) + 1),
+            None => true,
+        }
+    }
 }
