@@ -6,10 +6,10 @@ use mathlib.Core.Path.{◌≡◌, refl, subst}
 use mathlib.Core.Bool.{Bool, true, false, cond, and-eq-true_iff}
 use mathlib.Core.List.{List, [], ◌∷◌}
 use borrow.Author.Tests.{ltb-true, ltb-false, leb-true, lt-ltb, le-leb}
+use Rattle.std.specs.Prelude.{Option, None, Some}
 use Rattle.spec.specs.declared.Rate.{Rate}
-use Rattle.spec.specs.declared.Rate.TheVariants.{Absent, Present}
 use Rattle.spec.specs.declared.Spec.{Spec}
-use Rattle.spec.specs.Limits.{IsAccepted}
+use Rattle.spec.specs.Limits.{rate_of, IsAccepted}
 use Rattle.schedule.specs.Schedules.{in_stretch}
 use Rattle.meter.specs.Plain.{Report, counted_at, records_at, ending_with, over_budget, after, offer_answer, plain_answers, accepted_onto, later}
 use Rattle.meter.specs.Ring.{fresh, meter_answers}
@@ -53,19 +53,20 @@ module _ (b r : ℕ) where
           omega (arith, records_part (in_stretch a r) (ending_with r x.minute) x.minute l (λ u. stretch_ends a r x.minute u k) f)
       pick false e = omega (arith, kept a)
 
-abbrev WithinBudget : Rate → List Report → Type 0
-WithinBudget Absent l = Unit {0}
-WithinBudget (Present b r) l = (a : ℕ) → records_at (in_stretch a r) l ≤ b
+abbrev WithinBudget : Option Rate → List Report → Type 0
+WithinBudget None l = Unit {0}
+WithinBudget (Some rate) l = (a : ℕ) → records_at (in_stretch a rate.minutes) l ≤ rate.records
 
-within_none : (rate : Rate) → WithinBudget rate []
+within_none : (rate : Option Rate) → WithinBudget rate []
 unfolding counted_at
-within_none Absent = tt
-within_none (Present b r) = λ a. omega arith
+within_none None = tt
+within_none (Some rate) = λ a. omega arith
 
-within_more : (rate : Rate) (x : Report) (l : List Report) → FallsFrom x.minute l → over_budget rate l x ≡ false → WithinBudget rate l → WithinBudget rate (x ∷ l)
+within_more : (rate : Option Rate) (x : Report) (l : List Report) → FallsFrom x.minute l → over_budget rate l x ≡ false → WithinBudget rate l
+    → WithinBudget rate (x ∷ l)
 unfolding over_budget
-within_more Absent x l f e k = tt
-within_more (Present b r) x l f e k = one_more b r x l f (ltb-false _ _ e) k
+within_more None x l f e k = tt
+within_more (Some rate) x l f e k = one_more rate.records rate.minutes x l f (ltb-false _ _ e) k
 
 abbrev Kept : Spec → List Report → Type 0
 Kept spec l = Falls l × WithinBudget spec.supply l
@@ -86,10 +87,10 @@ NeverOver b r l = ((a : ℕ) → records_at (in_stretch a r) l ≤ b) × ((t : �
 never_over : (b r : ℕ) (l : List Report) → Falls l → ((a : ℕ) → records_at (in_stretch a r) l ≤ b) → NeverOver b r l
 never_over b r l f k = (k, λ t. omega (arith, k (t + 1 - r), records_part (ending_with r t) (in_stretch (t + 1 - r) r) (later l 0) l (λ u h. ends_in_stretch r t u) (later_falls l 0 f)))
 
-pub budget_kept : (spec : Spec) (b r : ℕ) (offers : List Report) → IsAccepted spec → spec.supply ≡ Present b r
+pub budget_kept : (spec : Spec) (b r : ℕ) (offers : List Report) → IsAccepted spec → spec.supply ≡ Some (rate_of b r)
     → NeverOver b r (accepted_onto [] offers (meter_answers (fresh spec) offers))
 budget_kept spec b r offers ok e =
     rw (same_answers spec offers ok)
     (let k = kept_all spec offers [] (tt, within_none spec.supply) in
     never_over b r (accepted_onto [] offers (plain_answers spec [] offers)) k.0
-    (subst (λ (rate : Rate). WithinBudget rate (accepted_onto [] offers (plain_answers spec [] offers))) e k.1))
+    (subst (λ (rate : Option Rate). WithinBudget rate (accepted_onto [] offers (plain_answers spec [] offers))) e k.1))

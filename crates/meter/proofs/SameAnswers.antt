@@ -11,20 +11,17 @@ use mathlib.Core.List.{List, [], ◌∷◌}
 use lib.Dec.{leb, ltb, eqb}
 use lib.ListN.{length-replicate}
 use borrow.Author.Tests.{leb-false, le-ltb, lt-leb, eqb-true, ne_eqb, not-false}
+use Rattle.std.specs.Prelude.{Option, None, Some}
 use Rattle.spec.specs.declared.Rate.{Rate}
-use Rattle.spec.specs.declared.Rate.TheVariants.{Absent, Present}
 use Rattle.spec.specs.declared.Spec.{Spec}
 use Rattle.spec.specs.Limits.{between, rate_limits, IsAccepted, size_allowed}
 use Rattle.spec.proofs.Facts.{leb_iff, facts, size_allowed_iff}
 use Rattle.schedule.specs.Schedules.{sum}
 use Rattle.schedule.proofs.Sums.{sum_const}
 use Rattle.numbers.proofs.Cases.{lt_cases}
-use Rattle.meter.specs.declared.Left.{Left}
-use Rattle.meter.specs.declared.Left.TheVariants.{Untold, Records}
 use Rattle.meter.specs.declared.Meter.{Meter}
-use Rattle.meter.specs.declared.Stepped.{Stepped}
 use Rattle.meter.specs.Plain.{Report, counted_at, records_at, reports_at, ending_with, too_early, over_budget, no_place, first_of, offer_number, after, later, budget_left, offer_answer, plain_answers}
-use Rattle.meter.specs.Ring.{window_of, budget_of, fresh, aged, used, ring_number, left_of, accepted_step, refused_step, stepped, meter_answers, meter_after}
+use Rattle.meter.specs.Ring.{window_of, budget_of, fresh, aged, used, ring_number, left_of, Step, accepted_step, refused_step, stepped, meter_answers, meter_after}
 use Rattle.meter.proofs.Offers.{Passed, passed, later_offered}
 use Rattle.meter.proofs.Rows.{counted_never}
 use Rattle.meter.proofs.Held.{Keeps, is_in, is_out, early_same, counting, used_now, held_now}
@@ -37,41 +34,42 @@ no_minutes worth t l =
     (λ u. ⊎_elim (λ h. rw (lt-leb u t h, and-false)) (λ h. is_out 0 t u (omega arith)) (lt_cases t u))
 
 -- the tests over the numbers of the window and the budget
-over_same : (rate : Rate) (l : List Report) (x : Report) → x.size ≤ 20000
+over_same : (rate : Option Rate) (l : List Report) (x : Report) → x.size ≤ 20000
     → ltb (budget_of rate) (records_at (ending_with (window_of rate) x.minute) l + x.size) ≡ over_budget rate l x
 unfolding over_budget
-over_same Absent l x h =
+over_same None l x h =
     le-ltb 20000 (records_at (ending_with 0 x.minute) l + x.size) (omega (arith, no_minutes (λ y. y.size) x.minute l))
-over_same (Present b r) l x h = refl
+over_same (Some rate) l x h = refl
 
-full_same : (rate : Rate) (l : List Report) (x : Report) → leb 1024 (reports_at (ending_with (window_of rate) x.minute) l) ≡ no_place rate l x
+full_same : (rate : Option Rate) (l : List Report) (x : Report) → leb 1024 (reports_at (ending_with (window_of rate) x.minute) l) ≡ no_place rate l x
 unfolding no_place
-full_same Absent l x = lt-leb 1024 (reports_at (ending_with 0 x.minute) l) (omega (arith, no_minutes (λ y. 1) x.minute l))
-full_same (Present b r) l x = refl
+full_same None l x = lt-leb 1024 (reports_at (ending_with 0 x.minute) l) (omega (arith, no_minutes (λ y. 1) x.minute l))
+full_same (Some rate) l x = refl
 
 -- the budget left, and that after an acceptance
-some_minutes : (b r : ℕ) → rate_limits (Present b r) ≡ true → 1 ≤ r
+some_minutes : (rate : Rate) → rate_limits (Some rate) ≡ true → 1 ≤ rate.minutes
 unfolding rate_limits
-some_minutes b r e = let k = simp (and-eq-true_iff, leb_iff) at e in omega arith
+some_minutes rate e = let k = simp (and-eq-true_iff, leb_iff) at e in omega arith
 
-abbrev told : Rate → ℕ → Left
-told rate records = cond (eqb (window_of rate) 0) Untold (Records (budget_of rate - records))
+abbrev told : Option Rate → ℕ → Option ℕ
+told rate records = cond (eqb (window_of rate) 0) None (Some (budget_of rate - records))
 
-left_same : (rate : Rate) (l : List Report) (t : ℕ) → rate_limits rate ≡ true
+left_same : (rate : Option Rate) (l : List Report) (t : ℕ) → rate_limits rate ≡ true
     → told rate (records_at (ending_with (window_of rate) (later l t)) l) ≡ budget_left rate l t
 unfolding budget_left
-left_same Absent l t e = refl
-left_same (Present b r) l t e = rw (ne_eqb r 0 (omega (arith, some_minutes b r e)))
+left_same None l t e = refl
+left_same (Some rate) l t e = rw (ne_eqb rate.minutes 0 (omega (arith, some_minutes rate e)))
 
-left_more : (rate : Rate) (l : List Report) (x : Report) → rate_limits rate ≡ true
+left_more : (rate : Option Rate) (l : List Report) (x : Report) → rate_limits rate ≡ true
     → told rate (records_at (ending_with (window_of rate) x.minute) l + x.size) ≡ budget_left rate (x ∷ l) x.minute
 unfolding budget_left later counted_at
-left_more Absent l x e = refl
-left_more (Present b r) l x e =
+left_more None l x e = refl
+left_more (Some rate) l x e =
+    let r = rate.minutes in
     let now : later (x ∷ l) x.minute ≡ x.minute = omega arith in
-    let k = some_minutes b r e in
+    let k = some_minutes rate e in
     rw (ne_eqb r 0 (omega arith), now, is_in r x.minute x.minute (omega arith) (omega arith), add_comm x.size)
-    (ap (λ (t : ℕ). Records (b - (records_at (ending_with r t) l + x.size))) (sym now))
+    (ap (λ (t : ℕ). Some (rate.records - (records_at (ending_with r t) l + x.size))) (sym now))
 
 -- of tests in a row only those that are come to must agree
 first_same : (early outside over over' full full' : Bool) → (early ≡ false → outside ≡ false → over ≡ over') → (early ≡ false → full ≡ full')
@@ -124,7 +122,7 @@ module _ (spec : Spec) (ok : IsAccepted spec) where
     left_told r = rw (kept.window, kept.budget)
 
     -- the answer is the plain machine's, and the meter stands for its list
-    abbrev Same : Stepped → List Report → Type 0
+    abbrev Same : Step → List Report → Type 0
     Same s l' = (s.answer ≡ record { number = offer_number spec l x; left = budget_left spec.supply l' t }) × Keeps spec s.meter l'
 
     same_refused : Same (refused_step m t x.size) l
@@ -156,7 +154,7 @@ module _ (spec : Spec) (ok : IsAccepted spec) where
       let s = one_step m l kept x in
       rw (s.0, same (stepped m x.minute x.size).meter (after spec l x) xs s.1)
 
-  holds : (m : Meter) (l offers : List Report) → Keeps spec m l → ((meter_after m offers).count ≤ 1024) × (spec.supply ≡ Absent → (meter_after m offers).count ≤ 1)
+  holds : (m : Meter) (l offers : List Report) → Keeps spec m l → ((meter_after m offers).count ≤ 1024) × (spec.supply ≡ None → (meter_after m offers).count ≤ 1)
   unfolding meter_after
   holds m l [] kept = (kept.few, λ e. kept.only_last (kept.window ∙ ap window_of e))
   holds m l (x ∷ xs) kept = holds (stepped m x.minute x.size).meter (after spec l x) xs (one_step m l kept x).1
@@ -184,5 +182,5 @@ pub same_answers : (spec : Spec) (offers : List Report) → IsAccepted spec → 
 same_answers spec offers ok = same spec ok (fresh spec) [] offers (fresh_keeps spec ok)
 
 pub holds_few : (spec : Spec) (offers : List Report) → IsAccepted spec
-    → ((meter_after (fresh spec) offers).count ≤ 1024) × (spec.supply ≡ Absent → (meter_after (fresh spec) offers).count ≤ 1)
+    → ((meter_after (fresh spec) offers).count ≤ 1024) × (spec.supply ≡ None → (meter_after (fresh spec) offers).count ≤ 1)
 holds_few spec offers ok = holds spec ok (fresh spec) [] offers (fresh_keeps spec ok)

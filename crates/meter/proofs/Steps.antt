@@ -1,19 +1,22 @@
--- Laws over plain numbers that the functions' proofs cite: the walk over the oldest reports, one at a time; and the step, put together
+-- Laws that the functions' proofs cite: the walk over the oldest reports, one at a time; and the step, put together
 -- from what its parts give.
-use Prim.Native.Nat.{ℕ, suc, ◌+◌, ◌-◌, ◌≤◌, ◌<◌}
+use Prim.Native.Nat.{ℕ, suc, ◌+◌, ◌*◌, ◌-◌, ◌≤◌, ◌<◌}
 use native.Mathlib.Omega.{arith}
 use native.Mathlib.Nat.{zero-add}
-use mathlib.Core.Path.{◌≡◌, refl, sym, ◌∙◌, ap}
+use mathlib.Core.Path.{◌≡◌, refl, sym, ◌∙◌}
 use mathlib.Core.Bool.{Bool, true, false, cond, not}
-use lib.Dec.{T, leb, ltb, eqb}
-use lib.ListN.{set}
+use lib.Dec.{leb, ltb, eqb}
+use lib.ListN.{set, get_or}
 use borrow.Author.Tests.{ne_eqb}
+use Rattle.std.specs.Prelude.{Result, Ok, Err, is_ok}
+use Rattle.spec.specs.declared.refusal.Refusal.{Refusal}
+use Rattle.spec.specs.Refusals.{answer_number}
 use Rattle.spec.specs.Limits.{between}
+use Rattle.spec.proofs.Refusals.{number_of_some}
 use Rattle.meter.specs.Plain.{Report, first_of}
 use Rattle.schedule.specs.Schedules.{sum}
-use Rattle.meter.specs.declared.Left.{Left}
+use Rattle.schedule.proofs.Sums.{sum_more}
 use Rattle.meter.specs.declared.Meter.{Meter}
-use Rattle.meter.specs.declared.Stepped.{Stepped}
 use Rattle.meter.specs.Ring.{place_of, ring_report, held_report, aged_from, later_of, aged, used, early_of, ring_number, with_offer, left_of, accepted_step, refused_step, stepped}
 
 module _ (f : ℕ → Report) (w t : ℕ) where
@@ -29,47 +32,72 @@ module _ (f : ℕ → Report) (w t : ℕ) where
   unfolding aged_from
   aged_past n i e = rw (e, aged_from)
 
-  -- k reports are passed, and the walk over the others gives the rest of the count
-  pub walk_starts : (n : ℕ) → 0 + aged_from f w t (n - 0) 0 ≡ aged_from f w t n 0
-  walk_starts n = let z : n - 0 ≡ n = omega arith in rw (z, zero-add)
+-- k reports are passed, all of them out of the window: the walk over the others gives the rest of the count, and `records` is their sum
+pub record Walked (m : Meter) (minute k records : ℕ) : Type 0 where
+  pub rest : k + aged_from (held_report m) m.window (later_of m.count m.last minute) (m.count - k) k ≡ aged m minute
+  pub passed : records ≡ sum (λ i. (held_report m i).size) k
+  pub fits : records ≤ 65_535 * k
 
-  module _ (n k all : ℕ) (walk : k + aged_from f w t (n - k) k ≡ all) where
-    pub walk_goes_on : k < n → leb ((f k).minute + w) t ≡ true → k + 1 + aged_from f w t (n - (k + 1)) (k + 1) ≡ all
-    walk_goes_on h e =
-        let z : n - k ≡ suc (n - (k + 1)) = omega arith in
-        omega (arith, rw (z, aged_more (n - (k + 1)) k e) at walk)
+pub walk_starts : (m : Meter) (minute : ℕ) → Walked m minute 0 0
+unfolding aged sum
+walk_starts m minute = let z : m.count - 0 ≡ m.count = omega arith in record { rest = rw (z, zero-add); passed = refl; fits = omega arith }
 
-    pub walk_stops : k < n → leb ((f k).minute + w) t ≡ false → k ≡ all
-    walk_stops h e =
-        let z : n - k ≡ suc (n - (k + 1)) = omega arith in
-        omega (arith, rw (z, aged_past (n - (k + 1)) k e) at walk)
+module _ (m : Meter) (minute k records : ℕ) (walk : Walked m minute k records) where
+  module _ (t at : ℕ) (now : t ≡ later_of m.count m.last minute) (place : at ≡ place_of m.first k) (more : k < m.count) where
+    here : (b : Bool) → b ≡ leb (get_or m.minutes at 0 + m.window) t → leb ((held_report m k).minute + m.window) (later_of m.count m.last minute) ≡ b
+    unfolding held_report ring_report
+    here b e = sym (rw (place, now) at e)
 
-    pub walk_ends : n ≤ k → k ≡ all
-    walk_ends h = let z : n - k ≡ 0 = omega arith in omega (arith, rw (z, aged_none k) at walk)
+    size_here : (held_report m k).size ≡ get_or m.sizes at 0
+    unfolding held_report ring_report
+    size_here = rw place refl
 
-module _ (m : Meter) (t : ℕ) where
-  pub aged_is : (a u : ℕ) → u ≡ later_of m.count m.last t → a ≡ aged_from (ring_report m.minutes m.sizes m.first) m.window u m.count 0 → a ≡ aged m t
-  unfolding aged held_report
-  aged_is a u e f = f ∙ rw e
+    pub walk_goes_on : get_or m.sizes at 0 ≤ 65_535 → true ≡ leb (get_or m.minutes at 0 + m.window) t → Walked m minute (k + 1) (records + get_or m.sizes at 0)
+    walk_goes_on few e =
+        let z : m.count - k ≡ suc (m.count - (k + 1)) = omega arith in
+        record {
+          rest = omega (arith, rw (z, aged_more (held_report m) m.window (later_of m.count m.last minute) (m.count - (k + 1)) k (here true e)) at walk.rest);
+          passed = rw (sum_more _ _, size_here) (omega (arith, walk.passed));
+          fits = omega (arith, walk.fits);
+        }
 
-  pub used_is : (a out u : ℕ) → a ≡ aged m t → out ≡ sum (λ i. (ring_report m.minutes m.sizes m.first i).size) a → u ≡ m.records - out → u ≡ used m t
-  unfolding used held_report
-  used_is a out u e f g = g ∙ rw (f, e)
+    pub walk_stops : false ≡ leb (get_or m.minutes at 0 + m.window) t → k ≡ aged m minute
+    walk_stops e =
+        let z : m.count - k ≡ suc (m.count - (k + 1)) = omega arith in
+        omega (arith, rw (z, aged_past (held_report m) m.window (later_of m.count m.last minute) (m.count - (k + 1)) k (here false e)) at walk.rest)
 
-module _ (m : Meter) (t d : ℕ) where
-  pub number_is : (a u n : ℕ) → a ≡ aged m t → u ≡ used m t
-      → n ≡ first_of (early_of m.count m.last m.smin t) (not (between m.dmin m.dmax d)) (ltb m.budget (u + d)) (leb 1024 (m.count - a))
-      → n ≡ ring_number m t d
+  pub walk_ends : m.count ≤ k → k ≤ m.count → m.count ≡ aged m minute
+  walk_ends h h' =
+      let z : m.count - k ≡ 0 = omega arith in
+      omega (arith, rw (z, aged_none (held_report m) m.window (later_of m.count m.last minute) k) at walk.rest)
+
+-- an answer's number is 0 exactly where nothing is refused
+module _ {A : Type 0} where
+  pub ok_number : (r : Result A Refusal) → is_ok r ≡ true → answer_number r ≡ 0
+  ok_number (Ok a) e = refl
+  ok_number (Err r) e = absurd (cc)
+
+  pub err_number : (r : Result A Refusal) → is_ok r ≡ false → ¬ (answer_number r ≡ 0)
+  err_number (Ok a) e z = absurd (cc)
+  err_number (Err r) e z = omega (arith, number_of_some r)
+
+-- The step, put together: of what the ring holds a reports have aged, with `out` records, and u are what is left of the records; the tests over these
+-- give the number n.
+module _ (m : Meter) (t d a out u n : ℕ) (walked : a ≡ aged m t) (gone : out ≡ sum (λ i. (held_report m i).size) a) (rest : u ≡ m.records - out)
+    (judged : n ≡ first_of (early_of m.count m.last m.smin t) (not (between m.dmin m.dmax d)) (ltb m.budget (u + d)) (leb 1024 (m.count - a))) where
+  used_is : u ≡ used m t
+  unfolding used
+  used_is = rest ∙ rw (gone, walked)
+
+  number_is : n ≡ ring_number m t d
   unfolding ring_number
-  number_is a u n e f g = g ∙ rw (e, f)
+  number_is = judged ∙ rw (walked, used_is)
 
-  pub step_refused : (n u : ℕ) → n ≡ ring_number m t d → (n ≡ 0 → ⊥) → u ≡ used m t
-      → record { meter = m; answer = record { number = n; left = left_of m.window m.budget u } } ≡ stepped m t d
+  pub step_refused : ¬ (n ≡ 0) → record { meter = m; answer = record { number = n; left = left_of m.window m.budget u } } ≡ stepped m t d
   unfolding stepped refused_step
-  step_refused n u e z f = rw (← e, ne_eqb n 0 z, ← f)
+  step_refused some = rw (← number_is, ne_eqb n 0 some, ← used_is)
 
-  pub step_accepted : (n a u first at : ℕ) → n ≡ ring_number m t d → n ≡ 0 → a ≡ aged m t → u ≡ used m t
-      → first ≡ place_of m.first a → at ≡ place_of m.first m.count
+  pub step_accepted : (first at : ℕ) → n ≡ 0 → first ≡ place_of m.first a → at ≡ place_of m.first m.count
       → record {
         meter = record {
           dmin = m.dmin;
@@ -87,24 +115,19 @@ module _ (m : Meter) (t d : ℕ) where
         answer = record { number = n; left = left_of m.window m.budget (u + d) };
       } ≡ stepped m t d
   unfolding stepped accepted_step with_offer
-  step_accepted n a u first at g z e f p q = rw (← g, z, ← f, ← e, p, q)
-
--- where the ways meet: a meter and its records are those of the way taken
-pub ways_meet : (m m' : Meter) (records records' n : ℕ) (left : Left) → m ≡ m' → records ≡ records' → left ≡ left_of m.window m.budget records
-    → ◌≡◌ {A = Stepped} (record { meter = m; answer = record { number = n; left = left } }) (record { meter = m'; answer = record { number = n; left = left_of m'.window m'.budget records' } })
-ways_meet m m' records records' n left e f g =
-    ap (λ (y : Left). record { meter = m; answer = record { number = n; left = y } }) g
-    ∙ ap (λ (y : Meter). record { meter = y; answer = record { number = n; left = left_of y.window y.budget records } }) e
-    ∙ ap (λ (k : ℕ). record { meter = m'; answer = record { number = n; left = left_of m'.window m'.budget k } }) f
+  step_accepted first at none p q = rw (← number_is, none, ← used_is, ← walked, p, q)
 
 -- a refusal leaves the meter as it was
-pub refusal_keeps : (m : Meter) (t d : ℕ) → T (not (eqb (stepped m t d).answer.number 0)) → m ≡ (stepped m t d).meter
+refusal_keeps : (m : Meter) (t d : ℕ) → ¬ ((stepped m t d).answer.number ≡ 0) → m ≡ (stepped m t d).meter
 unfolding stepped accepted_step refused_step
 refusal_keeps m t d = pick (eqb (ring_number m t d) 0)
   where
-    pick : (b : Bool) → T (not (eqb (cond b (accepted_step m t d) (refused_step m t d)).answer.number 0)) → m ≡ (cond b (accepted_step m t d) (refused_step m t d)).meter
-    pick true z = absurd z
-    pick false z = refl
+    pick : (b : Bool) → ¬ ((cond b (accepted_step m t d) (refused_step m t d)).answer.number ≡ 0) → m ≡ (cond b (accepted_step m t d) (refused_step m t d)).meter
+    pick true some = absurd (some refl)
+    pick false some = refl
+
+pub refused_keeps : (m : Meter) (t d n : ℕ) → n ≡ (stepped m t d).answer.number → ¬ (n ≡ 0) → m ≡ (stepped m t d).meter
+refused_keeps m t d n e some = refusal_keeps m t d (λ z. some (e ∙ z))
 
 pub refused_meter_kept : (m : Meter) (t d : ℕ) → 0 < (stepped m t d).answer.number → (stepped m t d).meter ≡ m
-refused_meter_kept m t d h = sym (refusal_keeps m t d (rw (ne_eqb (stepped m t d).answer.number 0 (λ z. omega arith)) tt))
+refused_meter_kept m t d h = sym (refusal_keeps m t d (λ z. omega arith))

@@ -1,13 +1,9 @@
 -- Document 02, Req 03: the plain machine, "a list of accepted reports, empty at the start", here with the last accepted first. It keeps
 -- every report, and minutes have no end: nothing wraps.
-use Rattle.std.specs.Prelude.{ℕ, ◌+◌, ◌-◌, max, Bool, false, cond, not, ◌&&◌, List, [], ◌∷◌, leb, ltb, eqb}
+use Rattle.std.specs.Prelude.{ℕ, ◌+◌, ◌-◌, max, Bool, false, cond, not, ◌&&◌, List, [], ◌∷◌, leb, ltb, eqb, Option, None, Some}
 use Rattle.spec.specs.declared.Rate.{Rate}
-use Rattle.spec.specs.declared.Rate.TheVariants.{Absent, Present}
 use Rattle.spec.specs.declared.Spec.{Spec}
 use Rattle.spec.specs.Limits.{size_allowed}
-use Rattle.meter.specs.declared.Left.{Left}
-use Rattle.meter.specs.declared.Left.TheVariants.{Untold, Records}
-use Rattle.meter.specs.declared.Answer.{Answer}
 
 -- a report, or the offer of one
 pub record Report : Type 0 where
@@ -36,14 +32,14 @@ too_early spec [] t = false
 too_early spec (x ∷ l) t = ltb t (x.minute + spec.smin)
 
 -- "if the accepted records of the R minutes ending with this one, plus the size, exceed B"; with no supply rate, never
-unfoldable pub over_budget : Rate → List Report → Report → Bool
-over_budget Absent l x = false
-over_budget (Present b r) l x = ltb b (records_at (ending_with r x.minute) l + x.size)
+unfoldable pub over_budget : Option Rate → List Report → Report → Bool
+over_budget None l x = false
+over_budget (Some rate) l x = ltb rate.records (records_at (ending_with rate.minutes x.minute) l + x.size)
 
 -- "if 1,024 accepted reports already lie in those R minutes"; with no supply rate, never
-unfoldable pub no_place : Rate → List Report → Report → Bool
-no_place Absent l x = false
-no_place (Present b r) l x = leb 1_024 (reports_at (ending_with r x.minute) l)
+unfoldable pub no_place : Option Rate → List Report → Report → Bool
+no_place None l x = false
+no_place (Some rate) l x = leb 1_024 (reports_at (ending_with rate.minutes x.minute) l)
 
 -- "turned down with 13 .., with 14 .., with 15 .., with 22 ..": the first that applies, or 0
 abbrev pub first_of : Bool → Bool → Bool → Bool → ℕ
@@ -68,21 +64,25 @@ later (x ∷ l) t = max t x.minute
 
 -- "B less the accepted records of the R minutes that end with" that minute, which are never more than B (`meter_budget` of the demands'
 -- page). With no supply rate there is "no budget left to tell".
-unfoldable pub budget_left : Rate → List Report → ℕ → Left
-budget_left Absent l t = Untold
-budget_left (Present b r) l t = Records (b - records_at (ending_with r (later l t)) l)
+unfoldable pub budget_left : Option Rate → List Report → ℕ → Option ℕ
+budget_left None l t = None
+budget_left (Some rate) l t = Some (rate.records - records_at (ending_with rate.minutes (later l t)) l)
 
--- the number, and "after each offer the budget left"
-unfoldable pub offer_answer : Spec → List Report → Report → Answer
+-- what an offer gets: 0 or the number of the refusal, and "after each offer the budget left", where there is one to tell
+pub record OfferAnswer : Type 0 where
+  pub number : ℕ
+  pub left : Option ℕ
+
+unfoldable pub offer_answer : Spec → List Report → Report → OfferAnswer
 offer_answer spec l x = record { number = offer_number spec l x; left = budget_left spec.supply (after spec l x) x.minute }
 
 -- the answers to a list of offers, one by one
-unfoldable pub plain_answers : Spec → List Report → List Report → List Answer
+unfoldable pub plain_answers : Spec → List Report → List Report → List OfferAnswer
 plain_answers spec l [] = []
 plain_answers spec l (x ∷ xs) = offer_answer spec l x ∷ plain_answers spec (after spec l x) xs
 
 -- of offers with their answers, those that got 0, put before a list
-unfoldable pub accepted_onto : List Report → List Report → List Answer → List Report
+unfoldable pub accepted_onto : List Report → List Report → List OfferAnswer → List Report
 accepted_onto l [] answers = l
 accepted_onto l (x ∷ xs) [] = l
 accepted_onto l (x ∷ xs) (a ∷ answers) = accepted_onto (cond (eqb a.number 0) (x ∷ l) l) xs answers

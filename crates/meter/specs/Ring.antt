@@ -2,21 +2,17 @@
 -- only the last". The meter's step, for every content of the struct. In the ring of 1,024 places, report i that is held stands i places
 -- after the first. An offer looks for those of the oldest that are out of the window; an acceptance lets them go and puts the report behind
 -- the last. A refusal changes nothing.
-use Rattle.std.specs.Prelude.{ℕ, zero, suc, ◌+◌, ◌-◌, ◌%◌, max, Bool, true, false, cond, not, List, [], ◌∷◌, leb, ltb, eqb, get_or, set, replicate}
+use Rattle.std.specs.Prelude.{ℕ, zero, suc, ◌+◌, ◌-◌, ◌%◌, max, Bool, true, false, cond, not, List, [], ◌∷◌, leb, ltb, eqb, get_or, set, replicate, Option, None, Some, Result, Ok, Err}
 use Rattle.spec.specs.declared.Rate.{Rate}
-use Rattle.spec.specs.declared.Rate.TheVariants.{Absent, Present}
 use Rattle.spec.specs.declared.Spec.{Spec}
-use Rattle.spec.specs.declared.SpecRead.{SpecRead}
+use Rattle.spec.specs.Refusals.{answer_number}
 use Rattle.spec.specs.File.{if_read}
 use Rattle.spec.specs.Limits.{between}
 use Rattle.schedule.specs.Schedules.{sum}
-use Rattle.meter.specs.declared.Left.{Left}
-use Rattle.meter.specs.declared.Left.TheVariants.{Untold, Records}
 use Rattle.meter.specs.declared.Answer.{Answer}
 use Rattle.meter.specs.declared.Meter.{Meter}
-use Rattle.meter.specs.declared.Made.{Made}
 use Rattle.meter.specs.declared.Stepped.{Stepped}
-use Rattle.meter.specs.Plain.{Report, first_of}
+use Rattle.meter.specs.Plain.{Report, OfferAnswer, first_of}
 
 -- a meter that holds nothing
 abbrev pub holds_nothing : ℕ → ℕ → ℕ → ℕ → ℕ → Meter
@@ -35,24 +31,20 @@ holds_nothing dmin dmax smin budget window = record {
 }
 
 -- the window's minutes and its budget: with no supply rate, 0 minutes and more than any report has
-abbrev pub window_of : Rate → ℕ
-window_of Absent = 0
-window_of (Present b r) = r
+abbrev pub window_of : Option Rate → ℕ
+window_of None = 0
+window_of (Some rate) = rate.minutes
 
-abbrev pub budget_of : Rate → ℕ
-budget_of Absent = 20_000
-budget_of (Present b r) = b
+abbrev pub budget_of : Option Rate → ℕ
+budget_of None = 20_000
+budget_of (Some rate) = rate.records
 
 abbrev pub fresh : Spec → Meter
 fresh spec = holds_nothing spec.dmin spec.dmax spec.smin (budget_of spec.supply) (window_of spec.supply)
 
--- "Making a meter can give 3 or 4", or 24 (Req 06), and from a file 1 or 2: then, in place of one, a meter that has no size in range, and so
--- takes no offer (`takes_no_offer` of proofs/Making.antt)
-abbrev pub takes_none : Meter
-takes_none = holds_nothing 1 0 0 0 0
-
-unfoldable pub made : SpecRead → Made
-made read = record { number = if_read read (λ spec. 0) (λ n. n); meter = if_read read fresh (λ n. takes_none) }
+-- "Making a meter can give 3 or 4", or 24 (Req 06), and from a file 1 or 2
+unfoldable pub made : Result Spec ℕ → Result Meter ℕ
+made read = if_read read (λ spec. Ok (fresh spec)) Err
 
 -- report i that is held, the oldest first
 abbrev pub place_of : ℕ → ℕ → ℕ
@@ -94,8 +86,8 @@ ring_number m t d =
     (leb 1024 (m.count - aged m t))
 
 -- the budget less so many records, told where there is a window
-unfoldable pub left_of : ℕ → ℕ → ℕ → Left
-left_of window budget records = cond (eqb window 0) Untold (Records (budget - records))
+unfoldable pub left_of : ℕ → ℕ → ℕ → Option ℕ
+left_of window budget records = cond (eqb window 0) None (Some (budget - records))
 
 -- the meter with a report more, and without those that are out of the window
 unfoldable pub with_offer : Meter → ℕ → ℕ → Meter
@@ -113,23 +105,35 @@ with_offer m t d = record {
   sizes = set m.sizes (place_of m.first m.count) d;
 }
 
+-- a meter after an offer, with the answer to it
+pub record Step : Type 0 where
+  pub meter : Meter
+  pub answer : OfferAnswer
+
 -- an offer of d records at minute t that is accepted, and one that is refused
-unfoldable pub accepted_step : Meter → ℕ → ℕ → Stepped
+unfoldable pub accepted_step : Meter → ℕ → ℕ → Step
 accepted_step m t d = record { meter = with_offer m t d; answer = record { number = 0; left = left_of m.window m.budget (used m t + d) } }
 
-unfoldable pub refused_step : Meter → ℕ → ℕ → Stepped
+unfoldable pub refused_step : Meter → ℕ → ℕ → Step
 refused_step m t d = record { meter = m; answer = record { number = ring_number m t d; left = left_of m.window m.budget (used m t) } }
 
-unfoldable pub stepped : Meter → ℕ → ℕ → Stepped
+unfoldable pub stepped : Meter → ℕ → ℕ → Step
 stepped m t d = cond (eqb (ring_number m t d) 0) (accepted_step m t d) (refused_step m t d)
 
+-- the code's answer, and its meter after an offer, with the refusal's number in place of the name
+abbrev pub numbered_answer : Answer → OfferAnswer
+numbered_answer a = record { number = answer_number a.verdict; left = a.left }
+
+abbrev pub numbered_step : Stepped → Step
+numbered_step s = record { meter = s.meter; answer = numbered_answer s.answer }
+
 -- what a lent place for the budget left holds afterwards: it is written only where there is one to tell
-abbrev pub told_or : Left → ℕ → ℕ
-told_or Untold former = former
-told_or (Records n) former = n
+abbrev pub told_or : Option ℕ → ℕ → ℕ
+told_or None former = former
+told_or (Some n) former = n
 
 -- the answers to a list of offers, one by one, and the meter after them
-unfoldable pub meter_answers : Meter → List Report → List Answer
+unfoldable pub meter_answers : Meter → List Report → List OfferAnswer
 meter_answers m [] = []
 meter_answers m (x ∷ xs) = (stepped m x.minute x.size).answer ∷ meter_answers (stepped m x.minute x.size).meter xs
 

@@ -5,21 +5,28 @@
 #![tactic(auto)]
 
 ghost use Rattle.std.specs.Prelude.{◌≡◌, not, ◌+◌, ◌-◌, ◌<◌, ◌≤◌, leb, ltb};
+ghost use Rattle.spec.specs.Refusals.{numbered, answer_number};
 ghost use Rattle.spec.specs.Limits.{between};
 ghost use Rattle.spec.specs.File.{accept, read_spec};
 ghost use Rattle.schedule.specs.Schedules.{sum};
 ghost use Rattle.meter.specs.Plain.{first_of};
-ghost use Rattle.meter.specs.Ring.{holds_nothing, window_of, budget_of, fresh, made, place_of, ring_report, aged_from, later_of, early_of, left_of, stepped, told_or};
+ghost use Rattle.meter.specs.Ring.{fresh, made, place_of, held_report, later_of, aged, early_of, left_of, numbered_answer, numbered_step, stepped, told_or};
 
-use spec::{Rate, Spec, SpecRead, refusal};
+use spec::refusal::{self, Refusal};
+use spec::{Rate, Spec};
 
-// Places of the ring: the length of both arrays.
+// Places of the ring: the length of both arrays, where it is cast, since a length may call no `From`.
 pub const PLACES: u16 = 1024;
 
-// One meter. The first five fields are the specification's: `budget` is B, `window` is R. With no supply rate the window is 0 minutes,
-// which hold nothing, and the budget is more than any report has.
+// What a meter goes by where there is no supply rate: a window of 0 minutes, which hold nothing, and a budget of more than any report has.
+const NO_SUPPLY: Rate = Rate {
+    records: 20000,
+    minutes: 0,
+};
+
+// One meter. The first five fields are the specification's: `budget` is B, `window` is R.
 // The reports that are held stand in the ring from place `first` on, oldest first: `count` of them with `records` records, the last
-// at minute `last`.
+// at minute `last`. The two arrays lie apart as C has them, and C may hand in any numbers: so no field says anything of another.
 #[repr(C)]
 #[derive(Clone, Copy)]
 pub struct Meter {
@@ -32,29 +39,15 @@ pub struct Meter {
     pub first: u16,
     pub count: u16,
     pub last: u32,
-    pub minutes: [u32; 1024],
-    pub sizes: [u16; 1024],
+    pub minutes: [u32; PLACES as usize],
+    pub sizes: [u16; PLACES as usize],
 }
 
-// 0 with a meter that holds nothing, or the number of the refusal with one that takes no offer.
-#[derive(Clone, Copy)]
-pub struct Made {
-    pub number: u32,
-    pub meter: Meter,
-}
-
-// The budget left, which is told only where there is a supply rate.
-#[derive(Clone, Copy)]
-pub enum Left {
-    Untold,
-    Records(u32),
-}
-
-// What an offer gets: 0 or the number of the refusal, and the budget left after it.
-#[derive(Clone, Copy)]
+// What an offer gets: whether it is accepted, and the budget left after it, which is told only where there is a supply rate.
+#[derive(Clone, Copy, Debug, PartialEq, Eq)]
 pub struct Answer {
-    pub number: u32,
-    pub left: Left,
+    pub verdict: Result<(), Refusal>,
+    pub left: Option<u32>,
 }
 
 // A meter after an offer, with the answer to it.
@@ -71,228 +64,169 @@ struct Aged {
     records: u32,
 }
 
-fn holds_nothing(dmin: u16, dmax: u16, smin: u16, budget: u16, window: u16) -> Meter
-    ensures { result ≡ holds_nothing dmin dmax smin budget window }
-{
-    Meter {
-        dmin,
-        dmax,
-        smin,
-        budget,
-        window,
-        records: 0,
-        first: 0,
-        count: 0,
-        last: 0,
-        minutes: [0; 1024],
-        sizes: [0; 1024],
+impl Meter {
+    // A meter that holds nothing.
+    fn fresh(spec: Spec) -> Meter
+        ensures { result ≡ fresh spec }
+    {
+        let supply = spec.supply.unwrap_or(NO_SUPPLY);
+        Meter {
+            dmin: spec.dmin,
+            dmax: spec.dmax,
+            smin: spec.smin,
+            budget: supply.records,
+            window: supply.minutes,
+            records: 0,
+            first: 0,
+            count: 0,
+            last: 0,
+            minutes: [0; PLACES as usize],
+            sizes: [0; PLACES as usize],
+        }
     }
-}
 
-fn window_of(rate: Rate) -> u16
-    ensures { result ≡ window_of rate }
-{
-    match rate {
-        Rate::Absent => 0,
-        Rate::Present {
-            records: _,
-            minutes,
-        } => minutes,
+    // The place of report i that is held.
+    fn place(&self, i: u16) -> u16
+        ensures place { result ≡ place_of self.now.first i }
+        ensures in_ring { result < 1024 }
+    {
+        // It fits, as is proved: `try_from` would bring an error that never comes.
+        ((u32::from(self.first) + u32::from(i)) % u32::from(PLACES)) as u16
     }
-}
 
-fn budget_of(rate: Rate) -> u16
-    ensures { result ≡ budget_of rate }
-{
-    match rate {
-        Rate::Absent => 20000,
-        Rate::Present {
+    // The later of the offered and the last accepted minute.
+    fn later(&self, minute: u32) -> u32
+        ensures { result ≡ later_of self.now.count self.now.last minute }
+    {
+        if self.count == 0 {
+            return minute;
+        }
+        self.last.max(minute)
+    }
+
+    // Whether a report is out of the window that ends with minute t: so many minutes old, or older. The sum may pass 32 bits.
+    fn is_aged(&self, minute: u32, t: u32) -> bool
+        ensures { result ≡ leb (minute + self.now.window) t }
+    {
+        u64::from(minute) + u64::from(self.window) <= u64::from(t)
+    }
+
+    // The oldest of the reports that are held, up to the first that is in the window that ends with the later minute.
+    fn aged(&self, minute: u32) -> Aged
+        ensures count { result.count ≡ aged self.now minute }
+        ensures most { result.count ≤ self.now.count }
+        ensures records { result.records ≡ sum (λ i. (held_report self.now i).size) result.count }
+    {
+        let t = self.later(minute);
+        let mut records = 0;
+        for k in 0..self.count {
+            let at = usize::from(self.place(k));
+            if !self.is_aged(self.minutes[at], t) {
+                return Aged { count: k, records };
+            }
+            records += u32::from(self.sizes[at]);
+        }
+        Aged {
+            count: self.count,
             records,
-            minutes: _,
-        } => records,
+        }
     }
-}
 
-fn fresh_of(spec: Spec) -> Meter
-    ensures { result ≡ fresh spec }
-{
-    let supply = spec.supply;
-    holds_nothing(
-        spec.dmin,
-        spec.dmax,
-        spec.smin,
-        budget_of(supply),
-        window_of(supply),
-    )
-}
+    // Whether an offer comes before the last accepted minute plus smin.
+    fn is_early(&self, minute: u32) -> bool
+        ensures { result ≡ early_of self.now.count self.now.last self.now.smin minute }
+    {
+        (self.count != 0) & (u64::from(minute) < u64::from(self.last) + u64::from(self.smin))
+    }
 
-fn made_of(read: SpecRead) -> Made
-    ensures { result ≡ made read }
-{
-    let SpecRead::Accepted(s) = read else {
-        return Made {
-            number: spec::read_number(read),
-            meter: holds_nothing(1, 0, 0, 0, 0),
-        };
-    };
-    Made {
-        number: 0,
-        meter: fresh_of(s),
+    // A size of 32 bits is compared as it stands.
+    fn is_outside(&self, size: u32) -> bool
+        ensures { result ≡ not (between self.now.dmin self.now.dmax size) }
+    {
+        (size < u32::from(self.dmin)) | (u32::from(self.dmax) < size)
+    }
+
+    // Whether a report more would be over the budget. The sum may pass 32 bits.
+    fn is_over(&self, records: u32, size: u32) -> bool
+        ensures { result ≡ ltb self.now.budget (records + size) }
+    {
+        u64::from(self.budget) < u64::from(records) + u64::from(size)
+    }
+
+    // The first refusal that applies, if any, where so many of the reports that are held count, with so many records.
+    fn verdict(&self, minute: u32, size: u32, records: u32, counting: u16) -> Result<(), Refusal>
+        ensures { answer_number result ≡ first_of
+            (early_of self.now.count self.now.last self.now.smin minute)
+            (not (between self.now.dmin self.now.dmax size))
+            (ltb self.now.budget (records + size))
+            (leb 1024 counting) }
+    {
+        if self.is_early(minute) {
+            return Err(Refusal::Gap);
+        }
+        if self.is_outside(size) {
+            return Err(Refusal::Size);
+        }
+        if self.is_over(records, size) {
+            return Err(Refusal::TooFull);
+        }
+        if PLACES <= counting {
+            return Err(Refusal::NoPlace);
+        }
+        Ok(())
+    }
+
+    // The budget left, told where there is a window.
+    #[tactic(auto, unfolding(crate::specs::Ring::left_of))]
+    fn left(&self, records: u32) -> Option<u32>
+        ensures { result ≡ left_of self.now.window self.now.budget records }
+    {
+        if self.window == 0 {
+            return None;
+        }
+        Some(u32::from(self.budget).saturating_sub(records))
     }
 }
 
 // A meter for a specification in numbers, or the refusal 3, 4 or 24.
-pub fn make(spec: Spec) -> Made
-    ensures { result ≡ made (accept spec) }
+pub fn make(spec: Spec) -> Result<Meter, Refusal>
+    ensures { numbered result ≡ made (accept spec) }
 {
-    made_of(spec::accepted(spec))
+    spec.accepted().map(Meter::fresh)
 }
 
 // A meter for a specification's file, or the refusal 1 to 4 or 24.
-pub fn make_from(bytes: &[u8]) -> Made
-    ensures { result ≡ made (read_spec bytes.now) }
+pub fn make_from(bytes: &[u8]) -> Result<Meter, Refusal>
+    ensures { numbered result ≡ made (read_spec bytes.now) }
 {
-    made_of(spec::read_spec(bytes))
-}
-
-// The place of report i that is held.
-fn place(first: u16, i: u16) -> u16
-    ensures { (result ≡ place_of first i) × (result < 1024) }
-{
-    ((first as u32 + i as u32) % PLACES as u32) as u16
-}
-
-// Whether a report is out of the window that ends with minute t: so many minutes old, or older. The sum may pass 32 bits.
-fn is_aged(minute: u32, window: u16, t: u32) -> bool
-    ensures { result ≡ leb (minute + window) t }
-{
-    minute as u64 + window as u64 <= t as u64
-}
-
-fn wide(x: u16) -> u32
-    ensures { (result ≡ x) × (result ≤ 65535) }
-{
-    x as u32
-}
-
-// The oldest of the reports that are held, up to the first that is in the window that ends with minute t.
-fn aged_of<'a>(
-    minutes: &'a [u32; 1024],
-    sizes: &'a [u16; 1024],
-    first: u16,
-    count: u16,
-    window: u16,
-    t: u32,
-) -> Aged
-    ensures { (result.count ≡ aged_from (ring_report minutes.now sizes.now first) window t count 0) × (result.count ≤ count) × (result.records ≡ sum (λ i. (ring_report minutes.now sizes.now first i).size) result.count) }
-{
-    let mut k: u16 = 0;
-    let mut records: u32 = 0;
-    while k < count {
-        let at = place(first, k) as usize;
-        if !is_aged(minutes[at], window, t) {
-            return Aged { count: k, records };
-        }
-        records += wide(sizes[at]);
-        k += 1;
-    }
-    Aged { count: k, records }
-}
-
-fn later_of(count: u16, last: u32, t: u32) -> u32
-    ensures { result ≡ later_of count last t }
-{
-    if count == 0 {
-        return t;
-    }
-    if last <= t { t } else { last }
-}
-
-fn early_of(count: u16, last: u32, smin: u16, t: u32) -> bool
-    ensures { result ≡ early_of count last smin t }
-{
-    if count == 0 {
-        return false;
-    }
-    (t as u64) < last as u64 + smin as u64
-}
-
-// Records less so many others. Of a meter that was overwritten these may be more.
-fn less(records: u16, others: u32) -> u16
-    ensures { result ≡ records - others }
-{
-    if others <= records as u32 {
-        (records as u32 - others) as u16
-    } else {
-        0
-    }
-}
-
-// A size of 32 bits is compared as it stands.
-fn is_outside(lo: u16, hi: u16, size: u32) -> bool
-    ensures { result ≡ not (between lo hi size) }
-{
-    !((lo as u32 <= size) & (size <= hi as u32))
-}
-
-fn over_of(budget: u16, used: u16, size: u32) -> bool
-    ensures { result ≡ ltb budget (used + size) }
-{
-    (budget as u64) < used as u64 + size as u64
-}
-
-fn first_of(early: bool, outside: bool, over: bool, full: bool) -> u32
-    ensures { result ≡ first_of early outside over full }
-{
-    if early {
-        return refusal::GAP;
-    }
-    if outside {
-        return refusal::SIZE;
-    }
-    if over {
-        return refusal::TOO_FULL;
-    }
-    if full { refusal::NO_PLACE } else { 0 }
-}
-
-fn left_of(window: u16, budget: u16, records: u16) -> Left
-    ensures { result ≡ left_of window budget records }
-{
-    if window == 0 {
-        return Left::Untold;
-    }
-    Left::Records(less(budget, records as u32) as u32)
+    spec::read_spec(bytes).map(Meter::fresh)
 }
 
 // One offer: the meter afterwards, and the answer. A refusal leaves the meter as it was.
 pub fn step(m: Meter, minute: u32, size: u32) -> Stepped
-    ensures { result ≡ stepped m minute size }
+    ensures { numbered_step result ≡ stepped m minute size }
 {
     // One copy is read and changed, and there is one way out: so a compiler need copy a lent meter only in, and out where it changed.
     let mut next = m;
-    let first = next.first;
-    let count = next.count;
-    let t = later_of(count, next.last, minute);
-    let aged = aged_of(&next.minutes, &next.sizes, first, count, next.window, t);
-    let used = less(next.records, aged.records);
-    let early = early_of(count, next.last, next.smin, minute);
-    let outside = is_outside(next.dmin, next.dmax, size);
-    let over = over_of(next.budget, used, size);
-    let number = first_of(early, outside, over, PLACES <= count - aged.count);
+    let aged = next.aged(minute);
+    let used = u32::from(next.records).saturating_sub(aged.records);
+    let counting = next.count - aged.count;
+    let verdict = next.verdict(minute, size, used, counting);
     let mut records = used;
-    if number == 0 {
-        records = used + size as u16;
-        let at = place(first, count) as usize;
-        next.records = records;
-        next.first = place(first, aged.count);
-        next.count = count - aged.count + 1;
+    if verdict.is_ok() {
+        records = used + size;
+        let at = usize::from(next.place(next.count));
+        let first = next.place(aged.count);
+        // Both fit, as is proved: `try_from` would bring an error that never comes.
+        next.records = records as u16;
+        next.first = first;
+        next.count = counting + 1;
         next.last = minute;
         next.minutes[at] = minute;
         next.sizes[at] = size as u16;
     }
-    let left = left_of(next.window, next.budget, records);
-    let answer = Answer { number, left };
+    let left = next.left(records);
+    let answer = Answer { verdict, left };
     Stepped {
         meter: next,
         answer,
@@ -301,10 +235,10 @@ pub fn step(m: Meter, minute: u32, size: u32) -> Stepped
 
 // One offer to a meter that its keeper lends, which is written only where the offer is accepted.
 pub fn offer(meter: &mut Meter, minute: u32, size: u32) -> Answer
-    ensures { (result ≡ (stepped meter.old minute size).answer) × (meter.new ≡ (stepped meter.old minute size).meter) }
+    ensures { (numbered_answer result ≡ (stepped meter.old minute size).answer) × (meter.new ≡ (stepped meter.old minute size).meter) }
 {
     let s = step(*meter, minute, size);
-    if s.answer.number == 0 {
+    if s.answer.verdict.is_ok() {
         *meter = s.meter;
     }
     s.answer
@@ -312,14 +246,10 @@ pub fn offer(meter: &mut Meter, minute: u32, size: u32) -> Answer
 
 // The number of an answer. The budget left is stored in a lent place where there is one to tell.
 pub fn tell(answer: Answer, left: &mut u32) -> u32
-    ensures { (result ≡ answer.number) × (left.new ≡ told_or answer.left left.old) }
+    ensures { (result ≡ (numbered_answer answer).number) × (left.new ≡ told_or answer.left left.old) }
 {
-    let told = answer.left;
-    match told {
-        Left::Untold => {}
-        Left::Records(n) => {
-            *left = n;
-        }
+    if let Some(n) = answer.left {
+        *left = n;
     }
-    answer.number
+    refusal::answer_number(answer.verdict)
 }

@@ -1,0 +1,6 @@
+-- `make` meets its contract: what was read is mapped, as in the definition.
+use Rattle.meter.proofs.Making.{made_of}
+use Rattle.meter.proofs.make.Goals as goal
+
+pub returns : goal.returns
+returns c = made_of _ _ _ c.accepted.ensures c.map.ensures.cases
