@@ -1,195 +1,188 @@
 // What each operation's answer is in numbers, as the C calls hand it out: the number of the refusal or 0, and the values, each stored in
-// a lent place where there is one to tell. No place is written on a refusal, but for the condition of an inconsistent specification.
+// a lent place where there is one to tell. No place is written on a refusal, but for the condition of an inconsistent specification. Each kind
+// of answer has places of its own: one function for all would have to be told which value goes where, and be no plainer.
 #![tactic(auto)]
 
 ghost use Rattle.std.specs.Prelude.{◌≡◌};
-ghost use Rattle.answers.specs.Answers.{condition_number, consistency_answer, scheduled_answer, tested_answer, even_answer, report_answer, number_answer, contents_answer, bill_answer, calendar_answer, duty_answer, held_after};
+ghost use Rattle.std.specs.Result.{result_unwrap_or};
+ghost use Rattle.spec.specs.Refusals.{numbered, answer_number};
+ghost use Rattle.consistency.specs.Consistency.{told};
+ghost use Rattle.answers.specs.Answers.{condition_number, consistency_answer, scheduled_answer, tested_answer, even_answer, report_answer, contents_answer, bill_answer, held_after};
 
-use consistency::{Condition, Consistency};
+use consistency::{Condition, Unfit};
 use cost::Bill;
-use duty::{CalendarMinute, DutyMinute};
-use even::EvenPlan;
 use families::Scheduled;
-use feasibility::Tested;
-use plan::Reported;
-use plan::moments::{Contents, Found};
-use spec::refusal;
+use plan::moments::Contents;
+use plan::{Plan, Report};
+use spec::refusal::Refusal;
 
 pub fn condition_number(c: Condition) -> u32
     ensures { result ≡ condition_number c }
 {
-    match c {
-        Condition::BoundsFitRates => 3,
-        Condition::FewestReportsFitBudget => 4,
-        Condition::EnoughReportsForDemand => 5,
-        Condition::SupplyCoversDemand => 6,
+    c as u32
+}
+
+// 7, with the condition that failed first stored, or the number of another refusal.
+#[tactic(auto, unfolding(crate::specs::Answers::held_after), using(crate::proofs::Places::after_refusal))]
+fn failing_answer(unfit: Unfit, condition: &mut u32) -> u32
+    ensures number { result ≡ (consistency_answer (told (Err unfit))).number }
+    ensures condition { condition.new ≡ held_after 7 0 (consistency_answer (told (Err unfit))) condition.old }
+{
+    if let Unfit::Inconsistent(first) = unfit {
+        *condition = condition_number(first);
+    }
+    unfit.number()
+}
+
+#[tactic(auto, unfolding(crate::specs::Answers::held_after), using(crate::proofs::Places::after_refusal))]
+pub fn consistency_answer(found: Result<(), Unfit>, condition: &mut u32) -> u32
+    ensures number { result ≡ (consistency_answer (told found)).number }
+    ensures condition { condition.new ≡ held_after 7 0 (consistency_answer (told found)) condition.old }
+{
+    match found {
+        Ok(()) => 0,
+        Err(unfit) => failing_answer(unfit, condition),
     }
 }
 
-pub fn consistency_answer(found: Consistency, condition: &mut u32) -> u32
-    ensures { (result ≡ (consistency_answer found).number) × (condition.new ≡ held_after 7 0 (consistency_answer found) condition.old) }
+#[tactic(auto, unfolding(crate::specs::Answers::held_after), using(crate::proofs::Places::after_refusal))]
+pub fn schedule_answer(
+    found: Result<Scheduled, Refusal>,
+    period: &mut u32,
+    total: &mut u32,
+    figure: &mut u32,
+) -> u32
+    ensures number { result ≡ (scheduled_answer (numbered found)).number }
+    ensures period { period.new ≡ held_after 0 2 (scheduled_answer (numbered found)) period.old }
+    ensures total { total.new ≡ held_after 0 3 (scheduled_answer (numbered found)) total.old }
+    ensures figure { figure.new ≡ held_after 0 4 (scheduled_answer (numbered found)) figure.old }
 {
     match found {
-        Consistency::Consistent => 0,
-        Consistency::Inconsistent(failing) => {
-            *condition = condition_number(failing);
-            refusal::INCONSISTENT
-        }
-        Consistency::Refused(n) => n,
-    }
-}
-
-pub fn schedule_answer(found: Scheduled, period: &mut u32, total: &mut u32, figure: &mut u32) -> u32
-    ensures { (result ≡ (scheduled_answer found).number)
-        × (period.new ≡ held_after 0 2 (scheduled_answer found) period.old)
-        × (total.new ≡ held_after 0 3 (scheduled_answer found) total.old)
-        × (figure.new ≡ held_after 0 4 (scheduled_answer found) figure.old) }
-{
-    match found {
-        Scheduled::Found { plan: p, supply } => {
-            *period = p.period;
-            *total = p.total;
+        Ok(Scheduled { plan, supply }) => {
+            *period = plan.period;
+            *total = plan.total;
             *figure = supply;
             0
         }
-        Scheduled::Refused(n) => n,
+        Err(refusal) => refusal.number(),
     }
 }
 
+#[tactic(auto, unfolding(crate::specs::Answers::held_after), using(crate::proofs::Places::after_refusal))]
 pub fn test_answer(
-    found: Tested,
+    found: Result<Scheduled, Unfit>,
     condition: &mut u32,
     k: &mut u32,
     period: &mut u32,
     total: &mut u32,
     supply: &mut u32,
 ) -> u32
-    ensures { (result ≡ (tested_answer found).number)
-        × (condition.new ≡ held_after 7 0 (tested_answer found) condition.old)
-        × (k.new ≡ held_after 0 1 (tested_answer found) k.old)
-        × (period.new ≡ held_after 0 2 (tested_answer found) period.old)
-        × (total.new ≡ held_after 0 3 (tested_answer found) total.old)
-        × (supply.new ≡ held_after 0 4 (tested_answer found) supply.old) }
+    ensures number { result ≡ (tested_answer (told found)).number }
+    ensures condition { condition.new ≡ held_after 7 0 (tested_answer (told found)) condition.old }
+    ensures k { k.new ≡ held_after 0 1 (tested_answer (told found)) k.old }
+    ensures period { period.new ≡ held_after 0 2 (tested_answer (told found)) period.old }
+    ensures total { total.new ≡ held_after 0 3 (tested_answer (told found)) total.old }
+    ensures supply { supply.new ≡ held_after 0 4 (tested_answer (told found)) supply.old }
 {
     match found {
-        Tested::Passed {
-            plan: p,
-            supply: figure,
-        } => {
-            *k = p.count;
-            *period = p.period;
-            *total = p.total;
-            *supply = figure;
+        Ok(passed) => {
+            *k = passed.plan.count;
+            *period = passed.plan.period;
+            *total = passed.plan.total;
+            *supply = passed.supply;
             0
         }
-        Tested::Inconsistent(failing) => {
-            *condition = condition_number(failing);
-            refusal::INCONSISTENT
-        }
-        Tested::Refused(n) => n,
+        Err(unfit) => failing_answer(unfit, condition),
     }
 }
 
-pub fn even_answer(found: EvenPlan, k: &mut u32, period: &mut u32, total: &mut u32) -> u32
-    ensures { (result ≡ (even_answer found).number)
-        × (k.new ≡ held_after 0 1 (even_answer found) k.old)
-        × (period.new ≡ held_after 0 2 (even_answer found) period.old)
-        × (total.new ≡ held_after 0 3 (even_answer found) total.old) }
+#[tactic(auto, unfolding(crate::specs::Answers::held_after), using(crate::proofs::Places::after_refusal))]
+pub fn even_answer(
+    found: Result<Plan, Refusal>,
+    k: &mut u32,
+    period: &mut u32,
+    total: &mut u32,
+) -> u32
+    ensures number { result ≡ (even_answer (numbered found)).number }
+    ensures k { k.new ≡ held_after 0 1 (even_answer (numbered found)) k.old }
+    ensures period { period.new ≡ held_after 0 2 (even_answer (numbered found)) period.old }
+    ensures total { total.new ≡ held_after 0 3 (even_answer (numbered found)) total.old }
 {
     match found {
-        EvenPlan::Found(p) => {
-            *k = p.count;
-            *period = p.period;
-            *total = p.total;
+        Ok(plan) => {
+            *k = plan.count;
+            *period = plan.period;
+            *total = plan.total;
             0
         }
-        EvenPlan::Refused(n) => n,
+        Err(refusal) => refusal.number(),
     }
 }
 
-pub fn report_answer(found: Reported, minute: &mut u64, size: &mut u32) -> u32
-    ensures { (result ≡ (report_answer found).number)
-        × (minute.new ≡ held_after 0 0 (report_answer found) minute.old)
-        × (size.new ≡ held_after 0 1 (report_answer found) size.old) }
+#[tactic(auto, unfolding(crate::specs::Answers::held_after), using(crate::proofs::Places::after_refusal))]
+pub fn report_answer(found: Result<Report, Refusal>, minute: &mut u64, size: &mut u32) -> u32
+    ensures number { result ≡ (report_answer (numbered found)).number }
+    ensures minute { minute.new ≡ held_after 0 0 (report_answer (numbered found)) minute.old }
+    ensures size { size.new ≡ held_after 0 1 (report_answer (numbered found)) size.old }
 {
     match found {
-        Reported::At { minute: m, size: d } => {
-            *minute = m;
-            *size = d;
+        Ok(report) => {
+            *minute = report.minute;
+            *size = report.size;
             0
         }
-        Reported::Refused(n) => n,
+        Err(refusal) => refusal.number(),
     }
 }
 
-pub fn number_answer(found: Found, number: &mut u32) -> u32
-    ensures { (result ≡ (number_answer found).number) × (number.new ≡ held_after 0 0 (number_answer found) number.old) }
+#[tactic(auto, unfolding(crate::specs::Answers::held_after), using(crate::proofs::Places::after_refusal))]
+pub fn contents_answer(
+    found: Result<Contents, Refusal>,
+    reports: &mut u32,
+    records: &mut u64,
+) -> u32
+    ensures number { result ≡ (contents_answer (numbered found)).number }
+    ensures reports { reports.new ≡ held_after 0 0 (contents_answer (numbered found)) reports.old }
+    ensures records { records.new ≡ held_after 0 1 (contents_answer (numbered found)) records.old }
 {
     match found {
-        Found::Number(i) => {
-            *number = i;
+        Ok(held) => {
+            *reports = held.reports;
+            *records = held.records;
             0
         }
-        Found::Refused(n) => n,
+        Err(refusal) => refusal.number(),
     }
 }
 
-pub fn contents_answer(found: Contents, reports: &mut u32, records: &mut u64) -> u32
-    ensures { (result ≡ (contents_answer found).number)
-        × (reports.new ≡ held_after 0 0 (contents_answer found) reports.old)
-        × (records.new ≡ held_after 0 1 (contents_answer found) records.old) }
+#[tactic(auto, unfolding(crate::specs::Answers::held_after), using(crate::proofs::Places::after_refusal))]
+pub fn bill_answer(found: Result<Bill, Refusal>, tenths: &mut u64, cents: &mut u64) -> u32
+    ensures number { result ≡ (bill_answer (numbered found)).number }
+    ensures tenths { tenths.new ≡ held_after 0 0 (bill_answer (numbered found)) tenths.old }
+    ensures cents { cents.new ≡ held_after 0 1 (bill_answer (numbered found)) cents.old }
 {
     match found {
-        Contents::Held {
-            reports: n,
-            records: d,
-        } => {
-            *reports = n;
-            *records = d;
+        Ok(bill) => {
+            *tenths = bill.tenths;
+            *cents = bill.cents;
             0
         }
-        Contents::Refused(n) => n,
+        Err(refusal) => refusal.number(),
     }
 }
 
-pub fn bill_answer(found: Bill, tenths: &mut u64, cents: &mut u64) -> u32
-    ensures { (result ≡ (bill_answer found).number)
-        × (tenths.new ≡ held_after 0 0 (bill_answer found) tenths.old)
-        × (cents.new ≡ held_after 0 1 (bill_answer found) cents.old) }
+// An answer of one value, whatever its type: a report's number, a calendar minute, a duty minute. `value_number` and `value_place` of
+// proofs/Places.antt say of numbers that this is `value_answer`.
+#[tactic(auto, unfolding(crate::specs::Answers::held_after), using(crate::proofs::Places::after_refusal))]
+pub fn value_answer<T: Copy>(found: Result<T, Refusal>, place: &mut T) -> u32
+    ensures number { result ≡ answer_number found }
+    ensures place { place.new ≡ result_unwrap_or found place.old }
 {
     match found {
-        Bill::Due {
-            tenths: t,
-            cents: c,
-        } => {
-            *tenths = t;
-            *cents = c;
+        Ok(value) => {
+            *place = value;
             0
         }
-        Bill::Refused(n) => n,
-    }
-}
-
-pub fn calendar_answer(found: CalendarMinute, calendar: &mut u64) -> u32
-    ensures { (result ≡ (calendar_answer found).number) × (calendar.new ≡ held_after 0 0 (calendar_answer found) calendar.old) }
-{
-    match found {
-        CalendarMinute::At(m) => {
-            *calendar = m;
-            0
-        }
-        CalendarMinute::Refused(n) => n,
-    }
-}
-
-pub fn duty_answer(found: DutyMinute, duty: &mut u32) -> u32
-    ensures { (result ≡ (duty_answer found).number) × (duty.new ≡ held_after 0 0 (duty_answer found) duty.old) }
-{
-    match found {
-        DutyMinute::Number(d) => {
-            *duty = d;
-            0
-        }
-        DutyMinute::Refused(n) => n,
+        Err(refusal) => refusal.number(),
     }
 }
