@@ -1,4 +1,3 @@
-pub mod GivenSpec
 pub mod VerdictCases
 pub mod ListReadings
 pub mod LocalWords

@@ -1,10 +1,10 @@
 -- What each call of the C interface answers, by the definitions of the operations. "Every operation given a specification" gets its
 -- file's bytes here, so the refusals of reading it, 1 to 4 and 24, come first.
-use Rattle.std.specs.Prelude.{ℕ, cond, List, eqb}
+use Rattle.std.specs.Prelude.{ℕ, List, Result, Ok, Err}
 use Rattle.spec.specs.File.{read_spec, if_read}
-use Rattle.plan.specs.declared.Kind.TheVariants.{WellFormed, Even}
+use Rattle.plan.specs.declared.Kind.{Kind}
 use Rattle.plan.specs.declared.Plan.{Plan}
-use Rattle.plan.specs.Plans.{plan_of}
+use Rattle.plan.specs.Plans.{kind_named, plan_of}
 use Rattle.plan.specs.Reports.{report_of}
 use Rattle.plan.specs.Moments.{last_of, nearest_of, between_of}
 use Rattle.consistency.specs.Consistency.{consistency_of}
@@ -15,9 +15,7 @@ use Rattle.even.specs.Even.{even_plan}
 use Rattle.pairs.specs.declared.Pair.{Pair}
 use Rattle.cost.specs.Bills.{plan_bill, cycle_bill}
 use Rattle.duty.specs.Minutes.{calendar_of, duty_of, table_of}
-use Rattle.answers.specs.Answers.{Answer, refusal, consistency_answer, scheduled_answer, tested_answer, even_answer, report_answer, number_answer, contents_answer, bill_answer, calendar_answer, duty_answer}
-use Rattle.maxeltu.specs.declared.Named.{Named}
-use Rattle.maxeltu.specs.declared.Named.TheVariants.{Plan as NamedPlan, NoKind}
+use Rattle.answers.specs.Answers.{Answer, refusal, consistency_answer, scheduled_answer, tested_answer, even_answer, report_answer, contents_answer, bill_answer, value_answer}
 
 unfoldable pub consistency_call : List ℕ → Answer
 consistency_call bytes = if_read (read_spec bytes) (λ s. consistency_answer (consistency_of s)) refusal
@@ -31,23 +29,27 @@ test_call bytes = if_read (read_spec bytes) (λ s. tested_answer (test_of s)) re
 unfoldable pub even_call : List ℕ → Answer
 even_call bytes = if_read (read_spec bytes) (λ s. even_answer (even_plan s)) refusal
 
--- the plan of these numbers: kind 0 is the well-formed kind, 1 the even kind; no other number names a kind
-unfoldable pub plan_named : (kind k π δ : ℕ) → Named
-plan_named kind k π δ = cond (eqb kind 0) (NamedPlan (plan_of WellFormed k π δ)) (cond (eqb kind 1) (NamedPlan (plan_of Even k π δ)) NoKind)
+-- the plan of these numbers, the first of which names a kind
+abbrev pub plan_with : Result Kind ℕ → (k π δ : ℕ) → Result Plan ℕ
+plan_with (Ok kind) k π δ = Ok (plan_of kind k π δ)
+plan_with (Err n) k π δ = Err n
 
--- a call on a plan; of no kind there is no proper plan
-abbrev pub if_named : Named → (Plan → Answer) → Answer
-if_named (NamedPlan p) call = call p
-if_named NoKind call = refusal 11
+unfoldable pub plan_named : (kind k π δ : ℕ) → Result Plan ℕ
+plan_named kind = plan_with (kind_named kind)
+
+-- a call on a plan
+abbrev pub if_named : Result Plan ℕ → (Plan → Answer) → Answer
+if_named (Ok p) call = call p
+if_named (Err n) call = refusal n
 
 unfoldable pub report_call : (kind k π δ i : ℕ) → Answer
 report_call kind k π δ i = if_named (plan_named kind k π δ) (λ p. report_answer (report_of p i))
 
 unfoldable pub last_call : (kind k π δ minute : ℕ) → Answer
-last_call kind k π δ minute = if_named (plan_named kind k π δ) (λ p. number_answer (last_of p minute))
+last_call kind k π δ minute = if_named (plan_named kind k π δ) (λ p. value_answer (last_of p minute))
 
 unfoldable pub nearest_call : (kind k π δ minute : ℕ) → Answer
-nearest_call kind k π δ minute = if_named (plan_named kind k π δ) (λ p. number_answer (nearest_of p minute))
+nearest_call kind k π δ minute = if_named (plan_named kind k π δ) (λ p. value_answer (nearest_of p minute))
 
 unfoldable pub between_call : (kind k π δ a b : ℕ) → Answer
 between_call kind k π δ a b = if_named (plan_named kind k π δ) (λ p. contents_answer (between_of p a b))
@@ -60,7 +62,7 @@ cycle_cost_call bytes ps reports = if_read (read_spec bytes) (λ s. bill_answer 
 
 -- a call on a week table, which comes as a list of numbers
 unfoldable pub calendar_call : List ℕ → (duty : ℕ) → Answer
-calendar_call numbers duty = calendar_answer (calendar_of (table_of numbers) duty)
+calendar_call numbers duty = value_answer (calendar_of (table_of numbers) duty)
 
 unfoldable pub duty_call : List ℕ → (calendar : ℕ) → Answer
-duty_call numbers calendar = duty_answer (duty_of (table_of numbers) calendar)
+duty_call numbers calendar = value_answer (duty_of (table_of numbers) calendar)

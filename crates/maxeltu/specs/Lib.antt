@@ -1,3 +1,2 @@
 pub mod Calls
 pub mod Verdict
-pub mod InnerPromises
