@@ -9,7 +9,7 @@ use mathlib.Core.List.{List}
 use lib.ListN.{length}
 use borrow.Author.Tests.{ne_eqb}
 use Rattle.spec.specs.declared.Spec.{Spec}
-use Rattle.spec.specs.declared.SpecRead.TheVariants.{Accepted}
+use Rattle.std.specs.Prelude.{Result, Ok, Err}
 use Rattle.spec.specs.Limits.{IsAccepted}
 use Rattle.spec.specs.File.{read_spec}
 use Rattle.spec.proofs.AnyBytes.{SpecIsRead, spec_is_read}
@@ -17,9 +17,8 @@ use Rattle.spec.proofs.Facts.{gap_in_either, number_24, gap_allowed_least, gap_a
 use Rattle.schedule.specs.Schedules.{Schedule, minute}
 use Rattle.schedule.specs.Rules.{Obeys}
 use Rattle.plan.specs.declared.Plan.{Plan}
-use Rattle.plan.specs.declared.Reported.TheVariants.{At}
 use Rattle.plan.specs.Plans.{proper, run}
-use Rattle.plan.specs.Reports.{report_of}
+use Rattle.plan.specs.Reports.{report_at, if_proper, report_of}
 use Rattle.schedule.proofs.Sums.{block, sum_block, sum_whole}
 use Rattle.schedule.proofs.Rules.{breaks_not_obeys}
 use Rattle.schedule.proofs.StretchSum.{stretch_is_sum}
@@ -49,7 +48,7 @@ use Rattle.cycle.proofs.LatePassed.{late_passed, late_gap, late_size, late_full,
 use Rattle.cycle.proofs.Rounds.{whole_rounds}
 use Rattle.cost.proofs.Rounds.{plan_in_rounds, cycle_in_rounds}
 use Rattle.cost.proofs.Billing.{plan_billed, plan_in_bands, cycle_billed, cycle_in_bands}
-use Rattle.cyclefile.specs.File.{CycleRead, pairs, refused, read_cycle, write_number, Reads, bytes_after}
+use Rattle.cyclefile.specs.File.{read_cycle, write_number, Reads, bytes_after}
 use Rattle.cyclefile.proofs.RoundTrip.{reads_back, writes_back, reads_cycles}
 use Rattle.cyclefile.proofs.Refusals.{CycleRefusal, cycle_numbered}
 use Rattle.cyclefile.proofs.CutOrOver.{cut_off, number_stays, over_refused, over_whole}
@@ -61,19 +60,19 @@ use Rattle.maxeltu.specs.Verdict.{verdict_read, verdict_of}
 use Rattle.demands.specs.Demands.{KeptOnDuty, Demands}
 
 -- a cycle's file, by what it is read to
-cycle_is_read : (places : ℕ) (file : List ℕ) (r : CycleRead) → read_cycle places file ≡ r
-    → ((c : List Pair) × ((read_cycle places file ≡ pairs c) × ((1 ≤ length c) × ((length c ≤ 512) × (length c ≤ places)))))
-    ⊎ ((n : ℕ) × ((read_cycle places file ≡ refused n) × CycleRefusal n))
-cycle_is_read places file (pairs c) e = let h = reads_cycles places file c e in inl (c, (e, (h.0, (h.1, h.2))))
-cycle_is_read places file (refused n) e = inr (n, (e, cycle_numbered places file n e))
+cycle_is_read : (places : ℕ) (file : List ℕ) (r : Result (List Pair) ℕ) → read_cycle places file ≡ r
+    → ((c : List Pair) × ((read_cycle places file ≡ Ok c) × ((1 ≤ length c) × ((length c ≤ 512) × (length c ≤ places)))))
+    ⊎ ((n : ℕ) × ((read_cycle places file ≡ Err n) × CycleRefusal n))
+cycle_is_read places file (Ok c) e = let h = reads_cycles places file c e in inl (c, (e, (h.0, (h.1, h.2))))
+cycle_is_read places file (Err n) e = inr (n, (e, cycle_numbered places file n e))
 
-report_is : (p : Plan) (i : ℕ) → proper p ≡ true → report_of p i ≡ At (minute (run p) i) ((run p).size i)
-unfolding report_of
+report_is : (p : Plan) (i : ℕ) → proper p ≡ true → report_of p i ≡ Ok (report_at (minute (run p) i) ((run p).size i))
+unfolding report_of if_proper
 report_is p i ok = rw ok
 
-list_kept : (r : CycleRead) (held held' : List Pair) (count count' n : ℕ) → Reads r held count n held' count' → 0 < n → (held' ≡ held) × (count' ≡ count)
-list_kept (pairs ps) held held' count count' n h some = absurd (let z = h.0 in omega arith)
-list_kept (refused m) held held' count count' n h some = (h.1, h.2)
+list_kept : (r : Result (List Pair) ℕ) (held held' : List Pair) (count count' n : ℕ) → Reads r held count n held' count' → 0 < n → (held' ≡ held) × (count' ≡ count)
+list_kept (Ok ps) held held' count count' n h some = absurd (let z = h.0 in omega arith)
+list_kept (Err m) held held' count count' n h some = (h.1, h.2)
 
 bytes_kept : (c : List Pair) (held : List ℕ) → 0 < write_number (length held) c → bytes_after c held ≡ held
 bytes_kept c held h = rw (ne_eqb (write_number (length held) c) 0 (λ z. omega arith))
@@ -84,22 +83,22 @@ not_zero n h z = ⊎_elim (λ e. omega arith) (λ e. omega arith) h
 
 -- The loader's call.
 Loaded : List ℕ → List ℕ → Type 0
-Loaded spec cycle = (s : Spec) × ((c : List Pair) × ((read_spec spec ≡ Accepted s) × ((read_cycle 512 cycle ≡ pairs c) × Obeys s (cycle_run c))))
+Loaded spec cycle = (s : Spec) × ((c : List Pair) × ((read_spec spec ≡ Ok s) × ((read_cycle 512 cycle ≡ Ok c) × Obeys s (cycle_run c))))
 
 module _ (spec cycle : List ℕ) where
-  with_spec : (s : Spec) → read_spec spec ≡ Accepted s → IsAccepted s → (r : CycleRead) → read_cycle 512 cycle ≡ r → verdict_of spec cycle ≡ 0 → Loaded spec cycle
+  with_spec : (s : Spec) → read_spec spec ≡ Ok s → IsAccepted s → (r : Result (List Pair) ℕ) → read_cycle 512 cycle ≡ r → verdict_of spec cycle ≡ 0 → Loaded spec cycle
   unfolding verdict_of verdict_read Loaded
-  with_spec s a ok (pairs c) e z =
+  with_spec s a ok (Ok c) e z =
       let n = reads_cycles 512 cycle c e in
       (s, (c, (a, (e, (passed_obeys s c ok n.0 n.1).0 (rw (a, e) at z)))))
-  with_spec s a ok (refused n) e z = absurd (not_zero n (cycle_numbered 512 cycle n e) (rw (a, e) at z))
+  with_spec s a ok (Err n) e z = absurd (not_zero n (cycle_numbered 512 cycle n e) (rw (a, e) at z))
 
   zero_loaded : SpecIsRead (read_spec spec) → verdict_of spec cycle ≡ 0 → Loaded spec cycle
   unfolding verdict_of verdict_read
   zero_loaded (inl (s, (a, ok))) z = with_spec s a ok (read_cycle 512 cycle) refl z
   zero_loaded (inr (n, (a, bounds))) z = absurd (let e : n ≡ 0 = rw a at z in ⊎_elim (λ few. omega arith) (λ is. omega arith) bounds)
 
-  accepted : (s : Spec) → read_spec spec ≡ Accepted s → SpecIsRead (read_spec spec) → IsAccepted s
+  accepted : (s : Spec) → read_spec spec ≡ Ok s → SpecIsRead (read_spec spec) → IsAccepted s
   accepted s a (inl (t, (b, ok))) = let e : s ≡ t = cc in rw e ok
   accepted s a (inr (n, (b, bounds))) = absurd (let z : ◌≡◌ {A = ℕ} 0 1 = cc in omega arith)
 
@@ -109,7 +108,7 @@ module _ (spec cycle : List ℕ) where
       let n = reads_cycles 512 cycle c e in
       rw (a, e) ((passed_obeys s c (accepted s a (spec_is_read spec)) n.0 n.1).1 o)
 
-passes_on : (spec cycle : List ℕ) (s : Spec) (n : ℕ) → read_spec spec ≡ Accepted s → read_cycle 512 cycle ≡ refused n → verdict_of spec cycle ≡ n
+passes_on : (spec cycle : List ℕ) (s : Spec) (n : ℕ) → read_spec spec ≡ Ok s → read_cycle 512 cycle ≡ Err n → verdict_of spec cycle ≡ n
 unfolding verdict_of verdict_read
 passes_on spec cycle s n a e = rw (a, e)
 

@@ -1,15 +1,11 @@
 -- The three demands as theorems, for every specification, cycle, plan and file. That each function gives what its definition says is
 -- its own contract; here is what the definitions promise. `demands` of proofs/Demands.antt proves all of it.
-use Rattle.std.specs.Prelude.{ℕ, ◌+◌, ◌-◌, ◌*◌, ◌/◌, ◌%◌, ◌≤◌, ◌<◌, ◌≡◌, ◌↔◌, ◌⊎◌, true, false, List, [], ◌++◌, length, take, get_or}
+use Rattle.std.specs.Prelude.{ℕ, ◌+◌, ◌-◌, ◌*◌, ◌/◌, ◌%◌, ◌≤◌, ◌<◌, ◌≡◌, ◌↔◌, ◌⊎◌, true, false, List, [], ◌++◌, length, take, get_or, None, Some, Ok, Err}
 use Rattle.numbers.specs.Numbers.{ceil}
-use Rattle.spec.specs.declared.Rate.TheVariants.{Absent, Present}
 use Rattle.spec.specs.declared.Spec.{Spec}
 use Rattle.spec.specs.declared.Rates.{Rates}
-use Rattle.spec.specs.declared.BothRates.TheVariants.{Both}
-use Rattle.spec.specs.declared.Range.TheVariants.{Present as RangeOf}
 use Rattle.spec.specs.Rates.{HasTwoRanges, both_rates}
-use Rattle.spec.specs.declared.SpecRead.TheVariants.{Accepted, Refused as NotRead}
-use Rattle.spec.specs.Limits.{limits, order, spec_number, IsAccepted, gap_allowed}
+use Rattle.spec.specs.Limits.{rate_of, range_of, limits, order, spec_number, IsAccepted, gap_allowed}
 use Rattle.spec.specs.File.{read_spec}
 use Rattle.schedule.specs.Schedules.{Schedule, sum, InRounds, minute, stretch, in_stretch, share}
 use Rattle.schedule.specs.Moments.{IsLast, IsNearest, counted}
@@ -17,38 +13,28 @@ use Rattle.schedule.specs.Timed.{Timed, timed_share, timed_stretch, timed_gap, p
 use Rattle.schedule.specs.Rules.{SizesAllowed, GapsAllowed, SupplyKept, Obeys, TimedObeys, SizeBroken, GapBroken, TooFull, TooThin, Breaks}
 use Rattle.lateness.specs.Delays.{delayed, EveryDelay, SomeDelay}
 use Rattle.lateness.specs.PlannedSpec.{planned_spec}
-use Rattle.duty.specs.declared.CalendarMinute.TheVariants.{At as CalendarAt, Refused as NoCalendarMinute}
-use Rattle.duty.specs.declared.DutyMinute.TheVariants.{Number as DutyNumber, Refused as NoDutyMinute}
 use Rattle.duty.specs.Weeks.{Table, day_right, is_open, open_before, table_number, IsTable}
 use Rattle.duty.specs.Minutes.{calendar_minute, calendar_of, duty_of, table_of}
 use Rattle.duty.specs.Runs.{on_duty}
 use Rattle.plan.specs.declared.Kind.TheVariants.{Even}
 use Rattle.plan.specs.declared.Plan.{Plan}
-use Rattle.plan.specs.declared.Reported.TheVariants.{At}
 use Rattle.plan.specs.Plans.{proper, run}
-use Rattle.plan.specs.declared.moments.Found.TheVariants.{Number}
-use Rattle.plan.specs.declared.moments.Contents.TheVariants.{Held}
-use Rattle.plan.specs.Reports.{report_of}
-use Rattle.plan.specs.Moments.{last_of, nearest_of, between_of}
+use Rattle.plan.specs.Reports.{report_at, report_of}
+use Rattle.plan.specs.Moments.{contents_of, last_of, nearest_of, between_of}
 use Rattle.consistency.specs.declared.Condition.TheVariants.{FewestReportsFitBudget}
-use Rattle.consistency.specs.declared.Consistency.TheVariants.{Consistent, Inconsistent, Refused as NotJudged}
-use Rattle.consistency.specs.Consistency.{consistency_of}
+use Rattle.consistency.specs.Consistency.{inconsistent, refused, consistency_of}
 use Rattle.families.specs.declared.Family.{Family}
 use Rattle.families.specs.declared.Family.TheVariants.{MinimumDemand, MaximumSupply}
-use Rattle.families.specs.declared.Scheduled.TheVariants.{Found as ScheduleOf, Refused as NotScheduled}
-use Rattle.families.specs.Families.{schedule_for}
-use Rattle.feasibility.specs.declared.Tested.TheVariants.{Passed, Refused as NotTested}
+use Rattle.families.specs.Families.{schedule_of, schedule_for}
 use Rattle.feasibility.specs.Test.{family_of, figure_passes, test_of, BestOfAll}
-use Rattle.even.specs.declared.EvenPlan.TheVariants.{Found, Refused}
 use Rattle.even.specs.Even.{even_plan, evenly}
 use Rattle.pairs.specs.declared.Pair.{Pair}
 use Rattle.cycle.specs.Cycles.{pair_gap, cycle_run, round, round_records}
 use Rattle.cycle.specs.Check.{check_number}
 use Rattle.cycle.specs.LateCheck.{late_number}
-use Rattle.cost.specs.declared.Bill.TheVariants.{Due}
 use Rattle.cost.specs.Prices.{charge, FirstBand, tenths, cents}
-use Rattle.cost.specs.Bills.{plan_bill, cycle_bill}
-use Rattle.cyclefile.specs.File.{pairs, refused, cycle_bytes, read_cycle, write_number, Reads, bytes_after, AreBytes, Words}
+use Rattle.cost.specs.Bills.{bill_at, plan_bill, cycle_bill}
+use Rattle.cyclefile.specs.File.{cycle_bytes, read_cycle, write_number, Reads, bytes_after, AreBytes, Words}
 use Rattle.meter.specs.declared.Meter.{Meter}
 use Rattle.meter.specs.Plain.{Report, records_at, ending_with, plain_answers, accepted_onto}
 use Rattle.meter.specs.Ring.{fresh, stepped, meter_answers, meter_after}
@@ -82,26 +68,26 @@ pub record KeptOnDuty (table : Table) (s : Spec) (t : Schedule) : Type 0 where
   -- and from each report to the next it is at least smin calendar minutes
   pub duty_gaps : (i : ℕ) → s.smin ≤ timed_gap (on_duty table t) i
   -- "L, P and smax are read in duty minutes": the duty minute of report i is its minute in the schedule, which obeys all four rules
-  pub duty_minutes : (i : ℕ) → duty_of table ((on_duty table t).minute i) ≡ DutyNumber (minute t i)
+  pub duty_minutes : (i : ℕ) → duty_of table ((on_duty table t).minute i) ≡ Ok (minute t i)
   pub duty_rules : Obeys s t
 
 pub record Demands : Type 0 where
   -- 1. Any bytes handed in, of any length, are read to their contents or to the numbered refusal. A refusal writes to no lent place.
 
   pub specification_read : (bytes : List ℕ)
-      → ((s : Spec) × ((read_spec bytes ≡ Accepted s) × IsAccepted s))
-      ⊎ ((n : ℕ) × ((read_spec bytes ≡ NotRead n) × (((1 ≤ n) × (n ≤ 4)) ⊎ (n ≡ 24))))
+      → ((s : Spec) × ((read_spec bytes ≡ Ok s) × IsAccepted s))
+      ⊎ ((n : ℕ) × ((read_spec bytes ≡ Err n) × (((1 ≤ n) × (n ≤ 4)) ⊎ (n ≡ 24))))
   pub cycle_read : (places : ℕ) (file : List ℕ)
-      → ((c : List Pair) × ((read_cycle places file ≡ pairs c) × ((1 ≤ length c) × ((length c ≤ 512) × (length c ≤ places)))))
-      ⊎ ((n : ℕ) × ((read_cycle places file ≡ refused n) × ((n ≡ 12) ⊎ ((17 ≤ n) × (n ≤ 21)))))
+      → ((c : List Pair) × ((read_cycle places file ≡ Ok c) × ((1 ≤ length c) × ((length c ≤ 512) × (length c ≤ places)))))
+      ⊎ ((n : ℕ) × ((read_cycle places file ≡ Err n) × ((n ≡ 12) ⊎ ((17 ≤ n) × (n ≤ 21)))))
   -- Cut off or too long (document 02, Req 01). A file that is read, cut off anywhere, gets 18.
-  pub cut_off : (places : ℕ) (file : List ℕ) (c : List Pair) (n : ℕ) → read_cycle places file ≡ pairs c → n < length file → read_cycle places (take n file) ≡ refused 18
+  pub cut_off : (places : ℕ) (file : List ℕ) (c : List Pair) (n : ℕ) → read_cycle places file ≡ Ok c → n < length file → read_cycle places (take n file) ≡ Err 18
   -- 21 is given exactly to a file that is read, with bytes behind it
   pub bytes_over : (places : ℕ) (file : List ℕ)
-      → (read_cycle places file ≡ refused 21)
-      ↔ ((front : List ℕ) × ((over : List ℕ) × ((c : List Pair) × ((file ≡ front ++ over) × ((read_cycle places front ≡ pairs c) × (0 < length over))))))
+      → (read_cycle places file ≡ Err 21)
+      ↔ ((front : List ℕ) × ((over : List ℕ) × ((c : List Pair) × ((file ≡ front ++ over) × ((read_cycle places front ≡ Ok c) × (0 < length over))))))
   -- a number other than 18 stays, whatever bytes follow: a file with a wrong pair and bytes over gets the pair's number
-  pub number_stays : (places : ℕ) (file more : List ℕ) (n : ℕ) → read_cycle places file ≡ refused n → ¬ (n ≡ 18) → read_cycle places (file ++ more) ≡ refused n
+  pub number_stays : (places : ℕ) (file more : List ℕ) (n : ℕ) → read_cycle places file ≡ Err n → ¬ (n ≡ 18) → read_cycle places (file ++ more) ≡ Err n
   pub refused_list_kept : (file : List ℕ) (held held' : List Pair) (count count' n : ℕ)
       → Reads (read_cycle (length held) file) held count n held' count' → 0 < n → (held' ≡ held) × (count' ≡ count)
   pub refused_bytes_kept : (c : List Pair) (held : List ℕ)
@@ -113,16 +99,16 @@ pub record Demands : Type 0 where
   -- A second range of gaps (document 02, Req 06). A gap is allowed exactly when it is in either range.
   pub gap_in_either : (s : Spec) (g : ℕ)
       → (gap_allowed s g ≡ true)
-      ↔ (((s.smin ≤ g) × (g ≤ s.smax)) ⊎ ((lo : ℕ) × (hi : ℕ) × (s.second ≡ RangeOf lo hi) × (lo ≤ g) × (g ≤ hi)))
+      ↔ (((s.smin ≤ g) × (g ≤ s.smax)) ⊎ ((lo : ℕ) × (hi : ℕ) × (s.second ≡ Some (range_of lo hi)) × (lo ≤ g) × (g ≤ hi)))
   -- 24 is given exactly where 3 and 4 are not and the second range starts at smax or below it: ranges that touch are accepted
   pub ranges_apart : (s : Spec)
       → (spec_number s ≡ 24)
-      ↔ ((limits s ≡ true) × (order s ≡ true) × ((lo : ℕ) × (hi : ℕ) × (s.second ≡ RangeOf lo hi) × (lo ≤ s.smax)))
+      ↔ ((limits s ≡ true) × (order s ≡ true) × ((lo : ℕ) × (hi : ℕ) × (s.second ≡ Some (range_of lo hi)) × (lo ≤ s.smax)))
   -- consistency, a schedule for any k and the test give 25 exactly to an accepted specification with a second range
   pub two_ranges_turned_away : (s : Spec)
-      → ((consistency_of s ≡ NotJudged 25) ↔ HasTwoRanges s)
-      × ((f : Family) (k : ℕ) → (schedule_for f s k ≡ NotScheduled 25) ↔ HasTwoRanges s)
-      × ((test_of s ≡ NotTested 25) ↔ HasTwoRanges s)
+      → ((consistency_of s ≡ Err (refused 25)) ↔ HasTwoRanges s)
+      × ((f : Family) (k : ℕ) → (schedule_for f s k ≡ Err 25) ↔ HasTwoRanges s)
+      × ((test_of s ≡ Err (refused 25)) ↔ HasTwoRanges s)
   -- a stretch holds, summed, the sizes of the reports at its minutes, however many reports are looked at: every stretch below is such a sum
   pub stretch_sum : (s : Schedule) → ((i : ℕ) → 1 ≤ s.gap i) → (a w more : ℕ) → stretch s a w ≡ sum (share s a w) (a + w + more)
   -- so does a stretch of reports at given minutes (document 02, Req 09), where report i is at minute i or later; a schedule with no gap 0, however
@@ -139,26 +125,26 @@ pub record Demands : Type 0 where
   pub whole_rounds : (c : List Pair) → 1 ≤ length c → ((j : ℕ) → j < length c → 1 ≤ pair_gap c j) → (a w : ℕ)
       → (w % round c < round c) × (stretch (cycle_run c) a w ≡ w / round c * round_records c + stretch (cycle_run c) a (w % round c))
   -- the required supply is what minutes 0 to R - 1 hold, and no stretch of R minutes holds more
-  pub required_supply : (s : Spec) (q : Rates) (k : ℕ) (p : Plan) (v : ℕ) → both_rates s ≡ Both q → schedule_for MinimumDemand s k ≡ ScheduleOf p v
+  pub required_supply : (s : Spec) (q : Rates) (k : ℕ) (p : Plan) (v : ℕ) → both_rates s ≡ Ok q → schedule_for MinimumDemand s k ≡ Ok (schedule_of p v)
       → (stretch (run p) 0 q.r ≡ v) × ((a : ℕ) → stretch (run p) a q.r ≤ v)
   -- the available supply is the least that any stretch of P minutes holds
-  pub available_supply : (s : Spec) (q : Rates) (k : ℕ) (p : Plan) (v : ℕ) → both_rates s ≡ Both q → schedule_for MaximumSupply s k ≡ ScheduleOf p v
+  pub available_supply : (s : Spec) (q : Rates) (k : ℕ) (p : Plan) (v : ℕ) → both_rates s ≡ Ok q → schedule_for MaximumSupply s k ≡ Ok (schedule_of p v)
       → ((a : ℕ) → v ≤ stretch (run p) a q.p) × ((a : ℕ) × (stretch (run p) a q.p ≡ v))
   -- the test's schedule has the best figure over all k, and of equals the smallest k
-  pub test_best : (s : Spec) (q : Rates) (p : Plan) (v : ℕ) → both_rates s ≡ Both q → test_of s ≡ Passed p v → BestOfAll (family_of q) s p v
+  pub test_best : (s : Spec) (q : Rates) (p : Plan) (v : ℕ) → both_rates s ≡ Ok q → test_of s ≡ Ok (schedule_of p v) → BestOfAll (family_of q) s p v
   -- Condition 4 follows the carrier's count (document 02, Req 07). R minutes that begin with a report hold at least ⌈R/smax⌉ reports, in every
   -- schedule with no gap 0 and none above smax; so no schedule at all obeys a specification that condition 4 turns away.
   pub carriers_count : (t : Schedule) (smax : ℕ) → ((i : ℕ) → (1 ≤ t.gap i) × (t.gap i ≤ smax)) → (i r : ℕ) → ceil r smax ≤ stretch (counted t) (minute t i) r
-  pub condition_4_needed : (s : Spec) → consistency_of s ≡ Inconsistent FewestReportsFitBudget → (t : Schedule) → ¬ Obeys s t
+  pub condition_4_needed : (s : Spec) → consistency_of s ≡ Err (inconsistent FewestReportsFitBudget) → (t : Schedule) → ¬ Obeys s t
   -- the test finds some k for every consistent specification, which is an accepted one, with both rates: there is a best of all k, and where its
   -- figure passes the test passes it, else it gives 9
-  pub test_finds : (s : Spec) (q : Rates) → both_rates s ≡ Both q → consistency_of s ≡ Consistent
+  pub test_finds : (s : Spec) (q : Rates) → both_rates s ≡ Ok q → consistency_of s ≡ Ok tt
       → (p : Plan) × (v : ℕ) × BestOfAll (family_of q) s p v
-      × (((test_of s ≡ Passed p v) × (figure_passes (family_of q) q v ≡ true)) ⊎ ((test_of s ≡ NotTested 9) × (figure_passes (family_of q) q v ≡ false)))
+      × (((test_of s ≡ Ok (schedule_of p v)) × (figure_passes (family_of q) q v ≡ true)) ⊎ ((test_of s ≡ Err (refused 9)) × (figure_passes (family_of q) q v ≡ false)))
   -- so beside 7 it has no numbers but 3 to 5, 9, 24 and 25: 8 is given to nobody
-  pub test_numbers : (s : Spec) (n : ℕ) → test_of s ≡ NotTested n → ((3 ≤ n) × (n ≤ 5)) ⊎ ((n ≡ 9) ⊎ ((24 ≤ n) × (n ≤ 25)))
+  pub test_numbers : (s : Spec) (n : ℕ) → test_of s ≡ Err (refused n) → ((3 ≤ n) × (n ≤ 5)) ⊎ ((n ≡ 9) ⊎ ((24 ≤ n) × (n ≤ 25)))
   -- report i of a proper plan is report i of its endless run, for every i without upper end
-  pub every_report : (p : Plan) (i : ℕ) → proper p ≡ true → report_of p i ≡ At (minute (run p) i) ((run p).size i)
+  pub every_report : (p : Plan) (i : ℕ) → proper p ≡ true → report_of p i ≡ Ok (report_at (minute (run p) i) ((run p).size i))
   -- The first report is the fuller one (document 02, Req 02). In a plan of either kind no report is fuller than report 0, and no stretch
   -- fuller than as many minutes from minute 0 on.
   pub fuller_first : (p : Plan) → proper p ≡ true → ((i : ℕ) → (run p).size i ≤ (run p).size 0) × ((a w : ℕ) → stretch (run p) a w ≤ stretch (run p) 0 w)
@@ -169,20 +155,20 @@ pub record Demands : Type 0 where
   pub any_period : (p : Plan) → proper p ≡ true → (i : ℕ) → sum (λ j. (run p).size (i + j)) p.count ≡ p.total
   -- From a minute back to the report (document 02, Req 05), of either kind and at every minute. The last report at or before minute m is the
   -- greatest i whose minute is at most m; it is told of every proper plan, and of no other.
-  pub last_report_lem : (p : Plan) (m i : ℕ) → (last_of p m ≡ Number i) ↔ ((proper p ≡ true) × IsLast (run p) m i)
+  pub last_report_lem : (p : Plan) (m i : ℕ) → (last_of p m ≡ Ok i) ↔ ((proper p ≡ true) × IsLast (run p) m i)
   -- no report is nearer than the nearest, and none as near is before it
-  pub nearest_report_lem : (p : Plan) (m i : ℕ) → (nearest_of p m ≡ Number i) ↔ ((proper p ≡ true) × IsNearest (run p) m i)
+  pub nearest_report_lem : (p : Plan) (m i : ℕ) → (nearest_of p m ≡ Ok i) ↔ ((proper p ≡ true) × IsNearest (run p) m i)
   -- going from report i to its minute and back gives i
-  pub there_and_back : (p : Plan) (i m d : ℕ) → report_of p i ≡ At m d → (last_of p m ≡ Number i) × (nearest_of p m ≡ Number i)
+  pub there_and_back : (p : Plan) (i m d : ℕ) → report_of p i ≡ Ok (report_at m d) → (last_of p m ≡ Ok i) × (nearest_of p m ≡ Ok i)
   -- What lies from minute a up to but not including b is told of every proper plan with b not before a, and of no other: the sums over the
   -- reports at those minutes, of 1 and of their sizes, however many reports are looked at.
   pub between_sums : (p : Plan) (a b reports records : ℕ)
-      → (between_of p a b ≡ Held reports records)
+      → (between_of p a b ≡ Ok (contents_of reports records))
       ↔ ((proper p ≡ true)
       × ((a ≤ b)
       × ((more : ℕ) → (reports ≡ sum (share (counted (run p)) a (b - a)) (b + more)) × (records ≡ sum (share (run p) a (b - a)) (b + more)))))
   -- from a to b and from b to c is from a to c
-  pub counts_add_up : (p : Plan) (a b c n d n' d' : ℕ) → between_of p a b ≡ Held n d → between_of p b c ≡ Held n' d' → between_of p a c ≡ Held (n + n') (d + d')
+  pub counts_add_up : (p : Plan) (a b c n d n' d' : ℕ) → between_of p a b ≡ Ok (contents_of n d) → between_of p b c ≡ Ok (contents_of n' d') → between_of p a c ≡ Ok (contents_of (n + n') (d + d'))
   -- What a plan costs (document 02, Req 08). Of numbers that repeat after c, the sum over n is n / c times the sum over c, and the sum over
   -- n mod c. By this one law go the charges, the records and the minutes of the first n reports, of every proper plan and of every cycle.
   pub repeated_sum : (f : ℕ → ℕ) (c : ℕ) → ((i : ℕ) → f (i + c) ≡ f i) → InRounds c (sum f)
@@ -191,12 +177,12 @@ pub record Demands : Type 0 where
   pub cycle_in_rounds : (c : List Pair)
       → InRounds (length c) (tenths (cycle_run c)) × InRounds (length c) (sum (cycle_run c).size) × InRounds (length c) (minute (cycle_run c))
   -- a bill is told of every proper plan and of every cycle that is passed, and of no other
-  pub plan_billed : (p : Plan) (n t m : ℕ) → (plan_bill p n ≡ Due t m) ↔ ((proper p ≡ true) × (t ≡ tenths (run p) n) × (m ≡ cents t))
+  pub plan_billed : (p : Plan) (n t m : ℕ) → (plan_bill p n ≡ Ok (bill_at t m)) ↔ ((proper p ≡ true) × (t ≡ tenths (run p) n) × (m ≡ cents t))
   pub cycle_billed : (s : Spec) (c : List Pair) (n t m : ℕ)
-      → (cycle_bill s c n ≡ Due t m) ↔ ((check_number s c ≡ 0) × (t ≡ tenths (cycle_run c) n) × (m ≡ cents t))
+      → (cycle_bill s c n ≡ Ok (bill_at t m)) ↔ ((check_number s c ≡ 0) × (t ≡ tenths (cycle_run c) n) × (m ≡ cents t))
   -- no report that is billed is above the last band: each is charged the price of the first band that its size does not exceed
-  pub plan_in_bands : (p : Plan) (n t m : ℕ) → plan_bill p n ≡ Due t m → (i : ℕ) → FirstBand ((run p).size i) (charge ((run p).size i))
-  pub cycle_in_bands : (s : Spec) (c : List Pair) (n t m : ℕ) → cycle_bill s c n ≡ Due t m → (i : ℕ)
+  pub plan_in_bands : (p : Plan) (n t m : ℕ) → plan_bill p n ≡ Ok (bill_at t m) → (i : ℕ) → FirstBand ((run p).size i) (charge ((run p).size i))
+  pub cycle_in_bands : (s : Spec) (c : List Pair) (n t m : ℕ) → cycle_bill s c n ≡ Ok (bill_at t m) → (i : ℕ)
       → FirstBand ((cycle_run c).size i) (charge ((cycle_run c).size i))
   -- Duty hours (document 02, Req 11). A table is valid exactly when each of its seven days keeps the rules and some minute is open; every other one
   -- gets 27, and so do numbers that are not 28.
@@ -205,33 +191,33 @@ pub record Demands : Type 0 where
   pub other_count : (numbers : List ℕ) → ¬ (length numbers ≡ 28) → table_number (table_of numbers) ≡ 27
   -- The calendar minute of duty minute d is the open minute with d open ones before it, and the duty minute of an open minute is the number of
   -- those before it: at every minute without upper end. So each is told exactly where the other is, and undoes it.
-  pub calendar_of_duty : (table : Table) (d m : ℕ) → (calendar_of table d ≡ CalendarAt m) ↔ (IsTable table × (is_open table m ≡ true) × (open_before table m ≡ d))
-  pub duty_of_calendar : (table : Table) (m d : ℕ) → (duty_of table m ≡ DutyNumber d) ↔ (IsTable table × (is_open table m ≡ true) × (open_before table m ≡ d))
-  pub one_undoes_the_other : (table : Table) (d m : ℕ) → (calendar_of table d ≡ CalendarAt m) ↔ (duty_of table m ≡ DutyNumber d)
+  pub calendar_of_duty : (table : Table) (d m : ℕ) → (calendar_of table d ≡ Ok m) ↔ (IsTable table × (is_open table m ≡ true) × (open_before table m ≡ d))
+  pub duty_of_calendar : (table : Table) (m d : ℕ) → (duty_of table m ≡ Ok d) ↔ (IsTable table × (is_open table m ≡ true) × (open_before table m ≡ d))
+  pub one_undoes_the_other : (table : Table) (d m : ℕ) → (calendar_of table d ≡ Ok m) ↔ (duty_of table m ≡ Ok d)
   -- every duty minute has its calendar minute, unless the table gets 27; 28 is given exactly to a closed minute of a valid table
-  pub calendar_27 : (table : Table) (d : ℕ) → (calendar_of table d ≡ NoCalendarMinute 27) ↔ (¬ IsTable table)
-  pub every_duty_minute : (table : Table) (d : ℕ) → IsTable table → calendar_of table d ≡ CalendarAt (calendar_minute table d)
-  pub duty_27 : (table : Table) (m : ℕ) → (duty_of table m ≡ NoDutyMinute 27) ↔ (¬ IsTable table)
-  pub duty_28 : (table : Table) (m : ℕ) → (duty_of table m ≡ NoDutyMinute 28) ↔ (IsTable table × (is_open table m ≡ false))
+  pub calendar_27 : (table : Table) (d : ℕ) → (calendar_of table d ≡ Err 27) ↔ (¬ IsTable table)
+  pub every_duty_minute : (table : Table) (d : ℕ) → IsTable table → calendar_of table d ≡ Ok (calendar_minute table d)
+  pub duty_27 : (table : Table) (m : ℕ) → (duty_of table m ≡ Err 27) ↔ (¬ IsTable table)
+  pub duty_28 : (table : Table) (m : ℕ) → (duty_of table m ≡ Err 28) ↔ (IsTable table × (is_open table m ≡ false))
   -- the conversion never falls, and keeps distances or lengthens them: from a duty minute to a later one it is as many calendar minutes, or more
   pub distances_kept : (table : Table) (d e : ℕ) → IsTable table → d ≤ e → calendar_minute table d + (e - d) ≤ calendar_minute table e
   -- a written cycle reads back as itself
-  pub reads_back : (places : ℕ) (c : List Pair) → 1 ≤ length c → length c ≤ 512 → length c ≤ places → read_cycle places (cycle_bytes c) ≡ pairs c
+  pub reads_back : (places : ℕ) (c : List Pair) → 1 ≤ length c → length c ≤ 512 → length c ≤ places → read_cycle places (cycle_bytes c) ≡ Ok c
   -- what is written of 16-bit numbers is made of bytes
   pub written_bytes : (c : List Pair) → length c ≤ 512 → Words c → AreBytes (cycle_bytes c)
   -- a file that is read is the one that the writer makes of its contents
-  pub writes_back : (places : ℕ) (file : List ℕ) (c : List Pair) → AreBytes file → read_cycle places file ≡ pairs c → cycle_bytes c ≡ file
+  pub writes_back : (places : ℕ) (file : List ℕ) (c : List Pair) → AreBytes file → read_cycle places file ≡ Ok c → cycle_bytes c ≡ file
   -- A budget meter in the box (document 02, Req 03). For every list of offers to a fresh meter of an accepted specification, each answer, its
   -- number and its budget left, is the plain machine's.
   pub meter_answers_lem : (s : Spec) (offers : List Report) → IsAccepted s → meter_answers (fresh s) offers ≡ plain_answers s [] offers
   -- no R minutes, from whatever start, hold more than B records of the offers that the meter has accepted, nor do the R minutes that end with
   -- whatever minute: so the budget left, B less what these hold, is never cut off at 0
-  pub meter_budget : (s : Spec) (b r : ℕ) (offers : List Report) → IsAccepted s → s.supply ≡ Present b r
+  pub meter_budget : (s : Spec) (b r : ℕ) (offers : List Report) → IsAccepted s → s.supply ≡ Some (rate_of b r)
       → ((a : ℕ) → records_at (in_stretch a r) (accepted_onto [] offers (meter_answers (fresh s) offers)) ≤ b)
       × ((t : ℕ) → records_at (ending_with r t) (accepted_onto [] offers (meter_answers (fresh s) offers)) ≤ b)
   -- it holds 1,024 reports at most, and with no supply rate one
   pub meter_holds : (s : Spec) (offers : List Report) → IsAccepted s
-      → ((meter_after (fresh s) offers).count ≤ 1_024) × (s.supply ≡ Absent → (meter_after (fresh s) offers).count ≤ 1)
+      → ((meter_after (fresh s) offers).count ≤ 1_024) × (s.supply ≡ None → (meter_after (fresh s) offers).count ≤ 1)
   -- 3. For every accepted specification:
 
   -- a cycle of 1 to 512 pairs is passed exactly when its endless run obeys the four rules at every starting minute from 0 on
@@ -250,34 +236,34 @@ pub record Demands : Type 0 where
   pub on_time : (s : Spec) (c : List Pair) → late_number s 0 c ≡ check_number s c
   pub late_less : (s : Spec) (less more : ℕ) (c : List Pair) → less ≤ more → late_number s more c ≡ 0 → late_number s less c ≡ 0
   -- the endless run of every plan that the test passed obeys them
-  pub test_obeys : (s : Spec) (p : Plan) (v : ℕ) → test_of s ≡ Passed p v → (proper p ≡ true) × Obeys s (run p)
+  pub test_obeys : (s : Spec) (p : Plan) (v : ℕ) → test_of s ≡ Ok (schedule_of p v) → (proper p ≡ true) × Obeys s (run p)
   -- and so does that of every even plan
-  pub even_obeys : (s : Spec) (p : Plan) → even_plan s ≡ Found p → (proper p ≡ true) × Obeys s (run p)
+  pub even_obeys : (s : Spec) (p : Plan) → even_plan s ≡ Ok p → (proper p ≡ true) × Obeys s (run p)
   -- the even plan is refused exactly when every schedule with one gap breaks a rule, whatever the gap and whatever the endless list of sizes
-  pub even_refused : (s : Spec) → IsAccepted s → (even_plan s ≡ Refused 10) ↔ ((g : ℕ) (sizes : ℕ → ℕ) → ¬ Obeys s (evenly g sizes))
+  pub even_refused : (s : Spec) → IsAccepted s → (even_plan s ≡ Err 10) ↔ ((g : ℕ) (sizes : ℕ → ℕ) → ¬ Obeys s (evenly g sizes))
   -- The even plan sends least (document 02, Req 10). For every endless list of sizes which obeys the rules at the plan's gap, which is π/k, and for
   -- every number j, any j × k reports in a row that don't include report 0 hold at least as many records as the plan sends in j rounds.
-  pub even_least : (s : Spec) (p : Plan) → even_plan s ≡ Found p → (sizes : ℕ → ℕ) → Obeys s (evenly (p.period / p.count) sizes) → (j i : ℕ) → 1 ≤ i
+  pub even_least : (s : Spec) (p : Plan) → even_plan s ≡ Ok p → (sizes : ℕ → ℕ) → Obeys s (evenly (p.period / p.count) sizes) → (j i : ℕ) → 1 ≤ i
       → sum (run p).size (j * p.count) ≤ sum (λ n. sizes (i + n)) (j * p.count)
   -- That is met: the plan's own sizes are a list which obeys at its gap, and any j × k of its reports in a row, report 0 among them or not, hold
   -- exactly j × δ.
-  pub least_met : (s : Spec) (p : Plan) → even_plan s ≡ Found p
+  pub least_met : (s : Spec) (p : Plan) → even_plan s ≡ Ok p
       → Obeys s (evenly (p.period / p.count) (run p).size) × ((j i : ℕ) → sum (λ n. (run p).size (i + n)) (j * p.count) ≡ j * p.total)
   -- with report 0 it is false: of some list which obeys at the gap of some plan, the first k reports hold less than δ
   pub report_0_thinner : (s : Spec) × (p : Plan) × (sizes : ℕ → ℕ)
-      × (even_plan s ≡ Found p) × Obeys s (evenly (p.period / p.count) sizes) × (sum sizes p.count < p.total)
+      × (even_plan s ≡ Ok p) × Obeys s (evenly (p.period / p.count) sizes) × (sum sizes p.count < p.total)
   -- At every longer gap, of either range or of none, each endless list of sizes breaks one of the four rules: at an allowed gap some size is not
   -- allowed, or some R minutes hold more than B, or some P minutes fewer than L. No schedule breaks a rule and obeys.
-  pub even_longest : (s : Spec) (p : Plan) → even_plan s ≡ Found p → (g : ℕ) → p.period / p.count < g → (sizes : ℕ → ℕ) → Breaks s (evenly g sizes)
+  pub even_longest : (s : Spec) (p : Plan) → even_plan s ≡ Ok p → (g : ℕ) → p.period / p.count < g → (sizes : ℕ → ℕ) → Breaks s (evenly g sizes)
   pub breaks_not_obeys : (s : Spec) (t : Schedule) → Breaks s t → ¬ Obeys s t
   -- Run on duty minutes (document 02, Req 11), every schedule that obeys, so every cycle that is passed, still holds at most B in any R calendar
   -- minutes and keeps smin there; and so does every plan that the test passed, and every even plan.
   pub on_duty_lem : (table : Table) (s : Spec) (t : Schedule) → IsTable table → IsAccepted s → Obeys s t → KeptOnDuty table s t
-  pub test_on_duty : (table : Table) (s : Spec) (p : Plan) (v : ℕ) → IsTable table → test_of s ≡ Passed p v → KeptOnDuty table s (run p)
-  pub even_on_duty : (table : Table) (s : Spec) (p : Plan) → IsTable table → even_plan s ≡ Found p → KeptOnDuty table s (run p)
+  pub test_on_duty : (table : Table) (s : Spec) (p : Plan) (v : ℕ) → IsTable table → test_of s ≡ Ok (schedule_of p v) → KeptOnDuty table s (run p)
+  pub even_on_duty : (table : Table) (s : Spec) (p : Plan) → IsTable table → even_plan s ≡ Ok p → KeptOnDuty table s (run p)
   -- the loader's call gives 0 exactly when both files are read and the cycle's endless run obeys the specification's rules
   pub verdict_exact : (spec cycle : List ℕ)
       → (verdict_of spec cycle ≡ 0)
-      ↔ ((s : Spec) × ((c : List Pair) × ((read_spec spec ≡ Accepted s) × ((read_cycle 512 cycle ≡ pairs c) × Obeys s (cycle_run c)))))
+      ↔ ((s : Spec) × ((c : List Pair) × ((read_spec spec ≡ Ok s) × ((read_cycle 512 cycle ≡ Ok c) × Obeys s (cycle_run c)))))
   -- and, after an accepted specification, it passes on the number of a cycle file that is refused
-  pub verdict_passes_on : (spec cycle : List ℕ) (s : Spec) (n : ℕ) → read_spec spec ≡ Accepted s → read_cycle 512 cycle ≡ refused n → verdict_of spec cycle ≡ n
+  pub verdict_passes_on : (spec cycle : List ℕ) (s : Spec) (n : ℕ) → read_spec spec ≡ Ok s → read_cycle 512 cycle ≡ Err n → verdict_of spec cycle ≡ n

@@ -1,36 +1,28 @@
 -- Document 01, "Samples": those marked ★ as one table, and one proof that the definitions give every value that it prints. The sizes of
 -- B with 15 are those of document 02, Req 02, its offers those of Req 03, and what four reports of it cost that of Req 08; what F gets is
 -- that of Req 07; the way back from minutes, of Req 05, the other bills, late reports, of Req 09, and F with B = 15 are ours.
-use Rattle.std.specs.Prelude.{ℕ, ◌+◌, ◌*◌, ◌≡◌, refl, List, [], ◌∷◌, ◌++◌, Bool, true, false, ◌&&◌, eqb}
+use Rattle.std.specs.Prelude.{ℕ, ◌+◌, ◌*◌, ◌≡◌, refl, List, [], ◌∷◌, ◌++◌, Bool, true, false, ◌&&◌, eqb, Option, None, Some, Result, Ok, Err}
 use Rattle.spec.specs.declared.Rate.{Rate}
-use Rattle.spec.specs.declared.Rate.TheVariants.{Absent, Present}
 use Rattle.spec.specs.declared.Range.{Range}
-use Rattle.spec.specs.declared.Range.TheVariants.{Absent as NoRange, Present as RangeOf}
 use Rattle.spec.specs.declared.Spec.{Spec}
-use Rattle.spec.specs.declared.SpecRead.{SpecRead}
-use Rattle.spec.specs.declared.SpecRead.TheVariants.{Accepted, Refused as NotRead}
-use Rattle.spec.specs.Limits.{spec_number, first_number, if_none, limits, order, rate_limits, range_limits, range_order, starts_above, in_range, size_allowed, gap_allowed, top_of}
+use Rattle.spec.specs.Limits.{rate_of, range_of, spec_number, first_number, if_none, limits, order, rate_limits, range_limits, range_order, starts_above, in_range, size_allowed, gap_allowed, top_of}
 use Rattle.spec.specs.File.{read_spec}
 use Rattle.spec.specs.Rates.{second_number, one_range_number, rates_from, both_rates, started}
 use Rattle.numbers.specs.Numbers.{ceil, all}
 use Rattle.schedule.specs.Schedules.{sum, minute, held_from, stretch}
 use Rattle.schedule.specs.Moments.{greatest, last_report, first_least, nearest_report, reports_from, records_from}
 use Rattle.plan.specs.declared.Plan.{Plan}
-use Rattle.plan.specs.declared.Reported.{Reported}
-use Rattle.plan.specs.declared.Reported.TheVariants.{At, Refused as NotReported}
+use Rattle.plan.specs.declared.Report.{Report as PlanReport}
 use Rattle.plan.specs.Plans.{proper, run, kind_run, well_size, well_gap, even_first, even_size}
-use Rattle.plan.specs.Reports.{report_of}
-use Rattle.plan.specs.Moments.{number_of, last_of, nearest_of, between_of}
-use Rattle.consistency.specs.Consistency.{consistency_of, conditions_of, bounds_fit_rates, size_fits_budget, gap_fits_demand, demand_fits_duration, fewest_reports_fit_budget, enough_reports_for_demand, supply_covers_demand, where_rate, where_range}
+use Rattle.plan.specs.Reports.{if_proper, report_of}
+use Rattle.plan.specs.Moments.{last_of, nearest_of, between_of}
+use Rattle.consistency.specs.Consistency.{consistency_of, conditions_of, bounds_fit_rates, size_fits_budget, gap_fits_demand, demand_fits_duration, fewest_reports_fit_budget, enough_reports_for_demand, supply_covers_demand, where_there}
 use Rattle.families.specs.declared.Family.TheVariants.{MinimumDemand, MaximumSupply}
 use Rattle.families.specs.declared.Scheduled.{Scheduled}
-use Rattle.families.specs.declared.Scheduled.TheVariants.{Found as ScheduleOf, Refused as NotScheduled}
-use Rattle.families.specs.Families.{schedule_for, scheduled, exists, plan_for, supply_figure, required, available, least}
-use Rattle.feasibility.specs.Test.{test_of, test_consistent, test_taken, figure_passes, taken, first_count, last_count, schedule_with, taken_from, better_of, is_better, family_of}
-use Rattle.even.specs.declared.EvenPlan.{EvenPlan}
-use Rattle.even.specs.declared.EvenPlan.TheVariants.{Found, Refused}
+use Rattle.families.specs.Families.{schedule_with, schedule_for, scheduled, exists, plan_for, supply_figure, required, available, least}
+use Rattle.feasibility.specs.Test.{test_of, test_consistent, test_taken, figure_passes, taken, first_count, last_count, taken_from, better_of, is_better, family_of}
 use Rattle.even.specs.Even.{even_plan, plan_or10, even_plan_at, even_gap, largest, fits, supply_fits, demand_fits, total_of, count_at}
-use Rattle.answers.specs.Answers.{Answer, consistency_answer, scheduled_answer, tested_answer, even_answer, number_answer, contents_answer, bill_answer}
+use Rattle.answers.specs.Answers.{Answer, consistency_answer, scheduled_answer, tested_answer, even_answer, value_answer, contents_answer, bill_answer}
 use Rattle.lateness.specs.Lateness.{late_gap_allowed, late_supply, late_demand, lateness_number}
 use Rattle.pairs.specs.declared.Pair.{Pair}
 use Rattle.cycle.specs.Cycles.{pair_gap, pair_size, cycle_run, round}
@@ -39,10 +31,7 @@ use Rattle.cycle.specs.LateCheck.{late_number, late_cycle_number, late_gaps_allo
 use Rattle.cost.specs.declared.Bill.{Bill}
 use Rattle.cost.specs.Prices.{price_in, charge, tenths}
 use Rattle.cost.specs.Bills.{plan_bill, cycle_bill}
-use Rattle.meter.specs.declared.Left.{Left}
-use Rattle.meter.specs.declared.Left.TheVariants.{Untold, Records}
-use Rattle.meter.specs.declared.Answer.{Answer as OfferAnswer}
-use Rattle.meter.specs.Plain.{Report, counted_at, too_early, over_budget, no_place, offer_number, after, later, budget_left, offer_answer, plain_answers}
+use Rattle.meter.specs.Plain.{Report, OfferAnswer, counted_at, too_early, over_budget, no_place, offer_number, after, later, budget_left, offer_answer, plain_answers}
 
 -- an offer, with the number and the budget left that it gets
 pub record Offer : Type 0 where
@@ -87,9 +76,9 @@ answer_is : Answer → ℕ → List ℕ → Bool
 answer_is a number values = eqb a.number number && same a.values values
 
 -- report i and those after it
-report_is : Reported → ℕ → ℕ → Bool
-report_is (At m d) minute size = eqb m minute && eqb d size
-report_is (NotReported n) minute size = false
+report_is : Result PlanReport ℕ → ℕ → ℕ → Bool
+report_is (Ok x) minute size = eqb x.minute minute && eqb x.size size
+report_is (Err n) minute size = false
 
 reports_are : Plan → ℕ → List ℕ → List ℕ → Bool
 reports_are p i [] [] = true
@@ -106,52 +95,52 @@ even = 1
 
 -- the way back from minutes
 minute_is : Plan → (minute last nearest : ℕ) → Bool
-minute_is p m i j = answer_is (number_answer (last_of p m)) 0 (i ∷ []) && answer_is (number_answer (nearest_of p m)) 0 (j ∷ [])
+minute_is p m i j = answer_is (value_answer (last_of p m)) 0 (i ∷ []) && answer_is (value_answer (nearest_of p m)) 0 (j ∷ [])
 
 between_is : Plan → (a b reports records : ℕ) → Bool
 between_is p a b n d = answer_is (contents_answer (between_of p a b)) 0 (n ∷ d ∷ [])
 
 -- what the first reports cost
-bill_is : Bill → (tenths cents : ℕ) → Bool
+bill_is : Result Bill ℕ → (tenths cents : ℕ) → Bool
 bill_is b t c = answer_is (bill_answer b) 0 (t ∷ c ∷ [])
 
 -- of the plan of a schedule, and of an even plan
-of_schedule : Scheduled → (Plan → Bool) → Bool
-of_schedule (ScheduleOf p v) holds = holds p
-of_schedule (NotScheduled n) holds = false
+of_schedule : Result Scheduled ℕ → (Plan → Bool) → Bool
+of_schedule (Ok x) holds = holds x.plan
+of_schedule (Err n) holds = false
 
-of_even : EvenPlan → (Plan → Bool) → Bool
-of_even (Found p) holds = holds p
-of_even (Refused n) holds = false
+of_even : Result Plan ℕ → (Plan → Bool) → Bool
+of_even (Ok p) holds = holds p
+of_even (Err n) holds = false
 
-same_rate : Rate → Rate → Bool
-same_rate Absent Absent = true
-same_rate (Present n m) (Present n' m') = eqb n n' && eqb m m'
-same_rate Absent (Present n m) = false
-same_rate (Present n m) Absent = false
+same_rate : Option Rate → Option Rate → Bool
+same_rate None None = true
+same_rate (Some x) (Some y) = eqb x.records y.records && eqb x.minutes y.minutes
+same_rate None (Some y) = false
+same_rate (Some x) None = false
 
-same_range : Range → Range → Bool
-same_range NoRange NoRange = true
-same_range (RangeOf n m) (RangeOf n' m') = eqb n n' && eqb m m'
-same_range NoRange (RangeOf n m) = false
-same_range (RangeOf n m) NoRange = false
+same_range : Option Range → Option Range → Bool
+same_range None None = true
+same_range (Some x) (Some y) = eqb x.min y.min && eqb x.max y.max
+same_range None (Some y) = false
+same_range (Some x) None = false
 
-read_to : SpecRead → Spec → Bool
-read_to (Accepted r) s =
+read_to : Result Spec ℕ → Spec → Bool
+read_to (Ok r) s =
     same (r.dmin ∷ r.dmax ∷ r.smin ∷ r.smax ∷ []) (s.dmin ∷ s.dmax ∷ s.smin ∷ s.smax ∷ [])
     && same_rate r.supply s.supply
     && same_rate r.demand s.demand
     && same_range r.duration s.duration
     && same_range r.second s.second
-read_to (NotRead n) s = false
+read_to (Err n) s = false
 
 offered : List Offer → List Report
 offered [] = []
 offered (x ∷ xs) = x.report ∷ offered xs
 
-left_is : Left → ℕ → Bool
-left_is Untold n = false
-left_is (Records m) n = eqb m n
+left_is : Option ℕ → ℕ → Bool
+left_is None n = false
+left_is (Some m) n = eqb m n
 
 answers_are : List OfferAnswer → List Offer → Bool
 answers_are [] [] = true
@@ -193,16 +182,16 @@ pub record Sample : Type 0 where
   pub claims : List Claim
 
 -- a sample with a second range of gaps, which may be absent
-pub sample_with : Range → (dmin dmax smin smax b r l p : ℕ) → List Claim → Sample
+pub sample_with : Option Range → (dmin dmax smin smax b r l p : ℕ) → List Claim → Sample
 sample_with second dmin dmax smin smax b r l p cs = record {
   spec = record {
     dmin = dmin;
     dmax = dmax;
     smin = smin;
     smax = smax;
-    supply = Present b r;
-    demand = Present l p;
-    duration = NoRange;
+    supply = Some (rate_of b r);
+    demand = Some (rate_of l p);
+    duration = None;
     second = second;
   };
   claims = cs;
@@ -210,7 +199,7 @@ sample_with second dmin dmax smin smax b r l p cs = record {
 
 -- "Written (sizes), (gaps), (B, R), (L, P)."
 pub sample : (dmin dmax smin smax b r l p : ℕ) → List Claim → Sample
-sample = sample_with NoRange
+sample = sample_with None
 
 -- a cycle with one gap
 pub cycle : (gap : ℕ) → List ℕ → List Pair
@@ -280,7 +269,7 @@ samples =
     ∷ sample 5 5 4 4 15 10 5 20 (consistency_gets 0 ∷ test_passes 3 12 15 25 ∷ [])
     -- a van of two shifts (document 02, Req 06): samples/shift.spec with its two cycles, of which one has a gap between the ranges; the
     -- same with a second range that touches the first, and with one that starts at smax
-    ∷ sample_with (RangeOf 60 90) 1 10 5 15 22 60 8 90 (
+    ∷ sample_with (Some (range_of 60 90)) 1 10 5 15 22 60 8 90 (
     is_read_from (0x2F ∷ 0 ∷ 1 ∷ 0 ∷ 10 ∷ 0 ∷ 5 ∷ 0 ∷ 15 ∷ 0 ∷ 22 ∷ 0 ∷ 60 ∷ 0 ∷ 8 ∷ 0 ∷ 90 ∷ 0 ∷ 60 ∷ 0 ∷ 90 ∷ [])
     ∷ consistency_gets 25
     ∷ test_refuses 25
@@ -291,13 +280,13 @@ samples =
     ∷ late_gets (cycle 15 (4 ∷ [])) 0 0
     ∷ late_gets (cycle 15 (4 ∷ [])) 1 13
     ∷ late_gets (cycle 40 (4 ∷ [])) 25 13 ∷ [])
-    ∷ sample_with (RangeOf 16 90) 1 10 5 15 22 60 8 90 (
+    ∷ sample_with (Some (range_of 16 90)) 1 10 5 15 22 60 8 90 (
     cycle_gets (cycle 15 (8 ∷ []) ++ cycle 30 (4 ∷ []) ++ cycle 90 (8 ∷ [])) 0
     ∷ late_gets (cycle 15 (4 ∷ [])) 10 0
     ∷ late_gets (cycle 15 (4 ∷ [])) 11 13
     ∷ late_gets (cycle 40 (4 ∷ [])) 10 0
     ∷ late_gets (cycle 40 (4 ∷ [])) 11 16 ∷ [])
-    ∷ sample_with (RangeOf 15 90) 1 10 5 15 22 60 8 90 (consistency_gets 24 ∷ test_refuses 24 ∷ even_refuses 24 ∷ late_gets [] 1441 24 ∷ [])
+    ∷ sample_with (Some (range_of 15 90)) 1 10 5 15 22 60 8 90 (consistency_gets 24 ∷ test_refuses 24 ∷ even_refuses 24 ∷ late_gets [] 1441 24 ∷ [])
     -- reports that arrive late (document 02, Req 09): samples/late.spec with its cycles
     ∷ sample 1 2 2 6 4 6 2 8 (
     late_gets (cycle 4 (2 ∷ [])) 2 0
@@ -321,5 +310,5 @@ samples_hold (x ∷ xs) = claims_hold x.spec x.claims && samples_hold xs
 
 -- Every value of the table is what the definitions compute.
 pub samples_hold_lem : samples_hold samples ≡ true
-unfolding samples_hold samples sample sample_with cycle offer offered left_is answers_are claims_hold claim_holds same answer_is report_is reports_are well_formed even minute_is between_is bill_is of_schedule of_even same_rate same_range read_to spec_number first_number limits order rate_limits range_limits range_order starts_above in_range size_allowed gap_allowed top_of read_spec if_none second_number one_range_number started sum minute held_from stretch proper run kind_run well_size well_gap even_first even_size report_of number_of between_of greatest last_report first_least nearest_report reports_from records_from consistency_of conditions_of bounds_fit_rates size_fits_budget gap_fits_demand demand_fits_duration fewest_reports_fit_budget enough_reports_for_demand supply_covers_demand where_rate where_range ceil schedule_for both_rates rates_from scheduled exists plan_for supply_figure required available least test_of test_consistent test_taken figure_passes taken first_count last_count schedule_with taken_from better_of is_better family_of even_plan plan_or10 even_plan_at even_gap largest fits supply_fits demand_fits total_of count_at pair_gap pair_size cycle_run round check_number cycle_number first_refusal gaps_allowed sizes_allowed supply_kept demand_met lateness_number late_number late_cycle_number late_gap_allowed late_gaps_allowed late_supply late_demand all price_in charge tenths plan_bill cycle_bill counted_at too_early over_budget no_place offer_number after later budget_left offer_answer plain_answers
+unfolding samples_hold samples sample sample_with cycle offer offered left_is answers_are claims_hold claim_holds same answer_is report_is reports_are well_formed even minute_is between_is bill_is of_schedule of_even same_rate same_range read_to spec_number first_number limits order rate_limits range_limits range_order starts_above in_range size_allowed gap_allowed top_of read_spec if_none second_number one_range_number started sum minute held_from stretch proper run kind_run well_size well_gap even_first even_size report_of if_proper between_of greatest last_report first_least nearest_report reports_from records_from consistency_of conditions_of bounds_fit_rates size_fits_budget gap_fits_demand demand_fits_duration fewest_reports_fit_budget enough_reports_for_demand supply_covers_demand where_there ceil schedule_for both_rates rates_from scheduled exists plan_for supply_figure required available least test_of test_consistent test_taken figure_passes taken first_count last_count schedule_with taken_from better_of is_better family_of even_plan plan_or10 even_plan_at even_gap largest fits supply_fits demand_fits total_of count_at pair_gap pair_size cycle_run round check_number cycle_number first_refusal gaps_allowed sizes_allowed supply_kept demand_met lateness_number late_number late_cycle_number late_gap_allowed late_gaps_allowed late_supply late_demand all price_in charge tenths plan_bill cycle_bill counted_at too_early over_budget no_place offer_number after later budget_left offer_answer plain_answers
 samples_hold_lem = refl

@@ -2,240 +2,188 @@
 // `samples` has the same samples as a table, with one proof that the definitions give every value.
 #![tactic(auto)]
 
-use consistency::{Condition, Consistency};
+use consistency::Unfit;
 use cost::Bill;
-use even::EvenPlan;
 use families::{Family, Scheduled};
-use feasibility::Tested;
-use meter::{Left, Meter};
-use plan::moments::{Contents, Found};
-use plan::{Kind, Plan, Reported, moments};
-use spec::{Range, Rate, Spec, SpecRead};
+use meter::Meter;
+use plan::moments::Contents;
+use plan::{Kind, Plan, Report};
+use spec::refusal::{Refusal, answer_number};
+use spec::{Range, Rate, Spec};
 use std::io;
 
 // A sample with a second range of gaps, which may be absent.
 fn sample_with(
-    second: Range,
-    dmin: u16,
-    dmax: u16,
-    smin: u16,
-    smax: u16,
-    b: u16,
-    r: u16,
-    l: u16,
-    p: u16,
+    second: Option<Range>,
+    sizes: (u16, u16),
+    gaps: (u16, u16),
+    supply: (u16, u16),
+    demand: (u16, u16),
 ) -> Spec {
     Spec {
-        dmin,
-        dmax,
-        smin,
-        smax,
-        supply: Rate::Present {
-            records: b,
-            minutes: r,
-        },
-        demand: Rate::Present {
-            records: l,
-            minutes: p,
-        },
-        duration: Range::Absent,
+        dmin: sizes.0,
+        dmax: sizes.1,
+        smin: gaps.0,
+        smax: gaps.1,
+        supply: Some(Rate::from(supply)),
+        demand: Some(Rate::from(demand)),
+        duration: None,
         second,
     }
 }
 
 // "Written (sizes), (gaps), (B, R), (L, P)."
-fn sample(dmin: u16, dmax: u16, smin: u16, smax: u16, b: u16, r: u16, l: u16, p: u16) -> Spec {
-    sample_with(Range::Absent, dmin, dmax, smin, smax, b, r, l, p)
+fn sample(sizes: (u16, u16), gaps: (u16, u16), supply: (u16, u16), demand: (u16, u16)) -> Spec {
+    sample_with(None, sizes, gaps, supply, demand)
 }
 
-fn text(rt: &impl Print, t: &str) -> io::Result<()> {
-    rt.print(t)
+fn refused(rt: &impl Print, refusal: Refusal) -> io::Result<()> {
+    println!(rt; " refused {}", refusal.number())
 }
 
-fn number(rt: &impl Print, n: u64) -> io::Result<()> {
-    print!(rt; " {n}")
-}
-
-fn end(rt: &impl Print) -> io::Result<()> {
-    text(rt, "\n")
-}
-
-fn refused(rt: &impl Print, n: u32) -> io::Result<()> {
-    text(rt, " refused")?;
-    number(rt, n as u64)?;
-    end(rt)
+// The condition that failed first, or the refusal.
+fn not_fit(rt: &impl Print, unfit: Unfit) -> io::Result<()> {
+    match unfit {
+        Unfit::Inconsistent(c) => println!(rt; " inconsistent {}", answers::condition_number(c)),
+        Unfit::Refused(refusal) => refused(rt, refusal),
+    }
 }
 
 // k, period and total.
 fn numbers_of(rt: &impl Print, p: Plan) -> io::Result<()> {
-    number(rt, p.count as u64)?;
-    number(rt, p.period as u64)?;
-    number(rt, p.total as u64)
+    print!(rt; " {} {} {}", p.count, p.period, p.total)
 }
 
-fn report(rt: &impl Print, p: Plan, i: u32) -> io::Result<()> {
-    match plan::report(p, i) {
-        Reported::At { minute, size } => {
-            number(rt, minute)?;
-            number(rt, size as u64)
-        }
-        Reported::Refused(n) => number(rt, n as u64),
+fn report(rt: &impl Print, found: Result<Report, Refusal>) -> io::Result<()> {
+    match found {
+        Ok(x) => print!(rt; " {} {}", x.minute, x.size),
+        Err(refusal) => print!(rt; " {}", refusal.number()),
     }
 }
 
 // Minutes and sizes of the first four reports.
 fn reports(rt: &impl Print, p: Plan) -> io::Result<()> {
-    text(rt, "  reports")?;
-    report(rt, p, 0)?;
-    report(rt, p, 1)?;
-    report(rt, p, 2)?;
-    report(rt, p, 3)?;
-    end(rt)
+    print!(rt; "  reports")?;
+    for i in 0..4 {
+        report(rt, p.report(i))?;
+    }
+    println!(rt)
 }
 
-fn schedule(rt: &impl Print, s: Scheduled) -> io::Result<()> {
-    match s {
-        Scheduled::Found { plan: p, supply } => {
-            numbers_of(rt, p)?;
-            number(rt, supply as u64)?;
-            end(rt)?;
-            reports(rt, p)
+fn schedule(rt: &impl Print, found: Result<Scheduled, Refusal>) -> io::Result<()> {
+    match found {
+        Ok(x) => {
+            numbers_of(rt, x.plan)?;
+            println!(rt; " {}", x.supply)?;
+            reports(rt, x.plan)
         }
-        Scheduled::Refused(n) => refused(rt, n),
+        Err(refusal) => refused(rt, refusal),
     }
 }
 
+// One function for both families, or for both kinds of cost, would have to be told the words too: no plainer than two of two lines.
 fn minimum_demand(rt: &impl Print, s: Spec, k: u32) -> io::Result<()> {
-    text(rt, "  minimum demand")?;
+    print!(rt; "  minimum demand")?;
     schedule(rt, families::schedule_for(Family::MinimumDemand, s, k))
 }
 
 fn maximum_supply(rt: &impl Print, s: Spec, k: u32) -> io::Result<()> {
-    text(rt, "  maximum supply")?;
+    print!(rt; "  maximum supply")?;
     schedule(rt, families::schedule_for(Family::MaximumSupply, s, k))
 }
 
-// The condition that failed first.
-fn inconsistent(rt: &impl Print, c: Condition) -> io::Result<()> {
-    text(rt, " inconsistent")?;
-    number(rt, answers::condition_number(c) as u64)?;
-    end(rt)
-}
-
 fn consistency(rt: &impl Print, s: Spec) -> io::Result<()> {
-    text(rt, "  consistency")?;
+    print!(rt; "  consistency")?;
     match consistency::consistency_of(s) {
-        Consistency::Consistent => {
-            number(rt, 0)?;
-            end(rt)
-        }
-        Consistency::Inconsistent(c) => inconsistent(rt, c),
-        Consistency::Refused(n) => refused(rt, n),
+        Ok(()) => println!(rt; " 0"),
+        Err(unfit) => not_fit(rt, unfit),
     }
 }
 
 fn test(rt: &impl Print, s: Spec) -> io::Result<()> {
-    text(rt, "  test")?;
+    print!(rt; "  test")?;
     match feasibility::test(s) {
-        Tested::Passed { plan: p, supply } => {
-            numbers_of(rt, p)?;
-            number(rt, supply as u64)?;
-            end(rt)
+        Ok(x) => {
+            numbers_of(rt, x.plan)?;
+            println!(rt; " {}", x.supply)
         }
-        Tested::Inconsistent(c) => inconsistent(rt, c),
-        Tested::Refused(n) => refused(rt, n),
+        Err(unfit) => not_fit(rt, unfit),
     }
 }
 
 fn even_plan(rt: &impl Print, s: Spec) -> io::Result<()> {
-    text(rt, "  even plan")?;
+    print!(rt; "  even plan")?;
     match even::even_plan(s) {
-        EvenPlan::Found(p) => {
+        Ok(p) => {
             numbers_of(rt, p)?;
-            end(rt)?;
+            println!(rt)?;
             reports(rt, p)
         }
-        EvenPlan::Refused(n) => refused(rt, n),
+        Err(refusal) => refused(rt, refusal),
     }
 }
 
-fn report_number(rt: &impl Print, found: Found) -> io::Result<()> {
+// The number of a report, or that of the refusal.
+fn report_number(found: Result<u32, Refusal>) -> u32 {
     match found {
-        Found::Number(i) => number(rt, i as u64),
-        Found::Refused(n) => number(rt, n as u64),
+        Ok(i) => i,
+        Err(refusal) => refusal.number(),
     }
 }
 
 // A minute, the last report at or before it, and the nearest.
 fn minute(rt: &impl Print, p: Plan, m: u32) -> io::Result<()> {
-    text(rt, "  minute")?;
-    number(rt, m as u64)?;
-    report_number(rt, moments::last_report(p, m))?;
-    report_number(rt, moments::nearest_report(p, m))?;
-    end(rt)
+    let last = report_number(p.last_report(m));
+    let nearest = report_number(p.nearest_report(m));
+    println!(rt; "  minute {m} {last} {nearest}")
+}
+
+fn contents(rt: &impl Print, found: Result<Contents, Refusal>) -> io::Result<()> {
+    match found {
+        Ok(x) => println!(rt; " {} {}", x.reports, x.records),
+        Err(refusal) => println!(rt; " {}", refusal.number()),
+    }
 }
 
 // Two minutes, and the reports and records between them.
 fn between(rt: &impl Print, p: Plan, a: u32, b: u32) -> io::Result<()> {
-    text(rt, "  between")?;
-    number(rt, a as u64)?;
-    number(rt, b as u64)?;
-    match moments::between(p, a, b) {
-        Contents::Held { reports, records } => {
-            number(rt, reports as u64)?;
-            number(rt, records)?;
-        }
-        Contents::Refused(n) => {
-            number(rt, n as u64)?;
-        }
-    }
-    end(rt)
+    print!(rt; "  between {a} {b}")?;
+    contents(rt, p.between(a, b))
 }
 
 // Tenths of a cent and whole cents.
-fn bill(rt: &impl Print, due: Bill) -> io::Result<()> {
+fn bill(rt: &impl Print, due: Result<Bill, Refusal>) -> io::Result<()> {
     match due {
-        Bill::Due { tenths, cents } => {
-            number(rt, tenths)?;
-            number(rt, cents)?;
-            end(rt)
-        }
-        Bill::Refused(n) => refused(rt, n),
+        Ok(x) => println!(rt; " {} {}", x.tenths, x.cents),
+        Err(refusal) => refused(rt, refusal),
     }
 }
 
 // A number of reports, and what so many first ones cost.
 fn plan_cost(rt: &impl Print, p: Plan, n: u32) -> io::Result<()> {
-    text(rt, "  cost of")?;
-    number(rt, n as u64)?;
+    print!(rt; "  cost of {n}")?;
     bill(rt, cost::plan_cost(p, n))
 }
 
 fn cycle_cost(rt: &impl Print, s: Spec, words: &[u16], n: u32) -> io::Result<()> {
-    text(rt, "  cycle cost of")?;
-    number(rt, n as u64)?;
+    print!(rt; "  cycle cost of {n}")?;
     bill(rt, cost::cycle_cost(s, words, n))
 }
 
 // The number of a cycle: gap, size, gap, size, ..
 fn cycle(rt: &impl Print, s: Spec, words: &[u16]) -> io::Result<()> {
-    text(rt, "  cycle")?;
-    number(rt, cycle::check(s, words) as u64)?;
-    end(rt)
+    println!(rt; "  cycle {}", answer_number(cycle::check(s, words)))
 }
 
 // That of a cycle of one pair, where reports may be so many minutes late.
 fn late_cycle(rt: &impl Print, s: Spec, gap: u16, size: u16, lateness: u32) -> io::Result<()> {
-    text(rt, "  late by")?;
-    number(rt, lateness as u64)?;
-    text(rt, " cycle")?;
-    number(rt, cycle::check_late(s, &[gap, size], lateness) as u64)?;
-    end(rt)
+    let number = answer_number(cycle::check_late(s, &[gap, size], lateness));
+    println!(rt; "  late by {lateness} cycle {number}")
 }
 
 fn sample_a(rt: &impl Print) -> io::Result<()> {
-    text(rt, "A\n")?;
-    let s = sample(3, 10, 45, 55, 29, 220, 17, 158);
+    println!(rt; "A")?;
+    let s = sample((3, 10), (45, 55), (29, 220), (17, 158));
     minimum_demand(rt, s, 2)?;
     minimum_demand(rt, s, 3)?;
     test(rt, s)?;
@@ -254,45 +202,52 @@ fn sample_a(rt: &impl Print) -> io::Result<()> {
 }
 
 fn sample_a_with_28(rt: &impl Print) -> io::Result<()> {
-    text(rt, "A with B = 28\n")?;
-    let less = sample(3, 10, 45, 55, 28, 220, 17, 158);
+    println!(rt; "A with B = 28")?;
+    let less = sample((3, 10), (45, 55), (28, 220), (17, 158));
     test(rt, less)?;
     even_plan(rt, less)
 }
 
 fn sample_b(rt: &impl Print) -> io::Result<()> {
-    text(rt, "B\n")?;
-    test(rt, sample(2, 3, 5, 5, 16, 26, 10, 20))?;
-    text(rt, "B with B = 14\n")?;
-    even_plan(rt, sample(2, 3, 5, 5, 14, 26, 10, 20))
+    println!(rt; "B")?;
+    test(rt, sample((2, 3), (5, 5), (16, 26), (10, 20)))?;
+    println!(rt; "B with B = 14")?;
+    even_plan(rt, sample((2, 3), (5, 5), (14, 26), (10, 20)))
 }
 
 // One offer: its number and the budget left. The meter after it is handed back.
 fn offer(rt: &impl Print, m: Meter, minute: u32, size: u32) -> io::Result<Meter> {
     let s = meter::step(m, minute, size);
-    number(rt, s.answer.number as u64)?;
-    if let Left::Records(n) = s.answer.left {
-        number(rt, n as u64)?;
+    print!(rt; " {}", answer_number(s.answer.verdict))?;
+    if let Some(n) = s.answer.left {
+        print!(rt; " {n}")?;
     }
     Ok(s.meter)
 }
 
 // Offers to a meter of B with 15: one that is refused far ahead drops nothing.
 fn offers(rt: &impl Print, s: Spec) -> io::Result<()> {
-    text(rt, "  offers")?;
-    let made = meter::make(s);
-    let m = offer(rt, made.meter, 9, 4)?;
-    let m = offer(rt, m, 3, 3)?;
-    let m = offer(rt, m, 8, 3)?;
-    let m = offer(rt, m, 1000, 9)?;
-    let m = offer(rt, m, 13, 3)?;
-    let m = offer(rt, m, 17, 3)?;
-    let m = offer(rt, m, 18, 3)?;
-    let m = offer(rt, m, 23, 3)?;
-    let m = offer(rt, m, 28, 1)?;
-    let m = offer(rt, m, 28, 3)?;
-    offer(rt, m, 29, 3)?;
-    end(rt)
+    print!(rt; "  offers")?;
+    let mut m = match meter::make(s) {
+        Ok(made) => made,
+        Err(refusal) => return refused(rt, refusal),
+    };
+    for (minute, size) in [
+        (9, 4),
+        (3, 3),
+        (8, 3),
+        (1000, 9),
+        (13, 3),
+        (17, 3),
+        (18, 3),
+        (23, 3),
+        (28, 1),
+        (28, 3),
+        (29, 3),
+    ] {
+        m = offer(rt, m, minute, size)?;
+    }
+    println!(rt)
 }
 
 // What the even plan of B with 15 costs: of ten reports half a cent goes up.
@@ -305,11 +260,11 @@ fn bills(rt: &impl Print, p: Plan) -> io::Result<()> {
 
 // B with 15, from its file, the cycles of G, and offers to a meter.
 fn sample_g(rt: &impl Print) -> io::Result<()> {
-    text(rt, "B with B = 15, G\n")?;
+    println!(rt; "B with B = 15, G")?;
     let file = [15u8, 0, 2, 0, 3, 0, 5, 0, 5, 0, 15, 0, 26, 0, 10, 0, 20];
-    let read = spec::read_spec(&file);
-    let SpecRead::Accepted(s) = read else {
-        return refused(rt, spec::read_number(read));
+    let s = match spec::read_spec(&file) {
+        Ok(accepted) => accepted,
+        Err(refusal) => return refused(rt, refusal),
     };
     test(rt, s)?;
     even_plan(rt, s)?;
@@ -332,37 +287,43 @@ fn sample_g(rt: &impl Print) -> io::Result<()> {
 }
 
 fn samples_c_and_d(rt: &impl Print) -> io::Result<()> {
-    text(rt, "C\n")?;
-    let c = sample(5, 6, 45, 46, 10, 79, 17, 159);
+    println!(rt; "C")?;
+    let c = sample((5, 6), (45, 46), (10, 79), (17, 159));
     maximum_supply(rt, c, 2)?;
     test(rt, c)?;
     even_plan(rt, c)?;
-    text(rt, "D\n")?;
-    let d = sample(3, 5, 35, 46, 10, 79, 17, 158);
+    println!(rt; "D")?;
+    let d = sample((3, 5), (35, 46), (10, 79), (17, 158));
     test(rt, d)?;
     even_plan(rt, d)
 }
 
 fn samples_e_and_f(rt: &impl Print) -> io::Result<()> {
-    text(rt, "E\n")?;
-    test(rt, sample(3, 10, 45, 80, 10, 79, 17, 159))?;
-    text(rt, "F\n")?;
-    let f = sample(5, 5, 4, 4, 10, 10, 5, 20);
+    println!(rt; "E")?;
+    test(rt, sample((3, 10), (45, 80), (10, 79), (17, 159)))?;
+    println!(rt; "F")?;
+    let f = sample((5, 5), (4, 4), (10, 10), (5, 20));
     consistency(rt, f)?;
     test(rt, f)?;
-    text(rt, "F with B = 15\n")?;
-    let kept = sample(5, 5, 4, 4, 15, 10, 5, 20);
+    println!(rt; "F with B = 15")?;
+    let kept = sample((5, 5), (4, 4), (15, 10), (5, 20));
     consistency(rt, kept)?;
     test(rt, kept)
 }
 
 // A van of two shifts: gaps 5 to 15, or those of the second range.
 fn shifts(min: u16, max: u16) -> Spec {
-    sample_with(Range::Present { min, max }, 1, 10, 5, 15, 22, 60, 8, 90)
+    sample_with(
+        Some(Range { min, max }),
+        (1, 10),
+        (5, 15),
+        (22, 60),
+        (8, 90),
+    )
 }
 
 fn two_shifts(rt: &impl Print) -> io::Result<()> {
-    text(rt, "Two shifts\n")?;
+    println!(rt; "Two shifts")?;
     let s = shifts(60, 90);
     consistency(rt, s)?;
     minimum_demand(rt, s, 1)?;
@@ -376,7 +337,7 @@ fn two_shifts(rt: &impl Print) -> io::Result<()> {
 
 // Ranges that touch are two, and a gap that was between them is allowed; ranges that overlap are refused.
 fn ranges_that_touch(rt: &impl Print) -> io::Result<()> {
-    text(rt, "Ranges that touch, that overlap\n")?;
+    println!(rt; "Ranges that touch, that overlap")?;
     let touching = shifts(16, 90);
     cycle(rt, touching, &[15, 8, 30, 4, 90, 8])?;
     late_cycle(rt, touching, 15, 4, 10)?;
@@ -389,15 +350,15 @@ fn ranges_that_touch(rt: &impl Print) -> io::Result<()> {
 
 // Reports that arrive late: a cycle that is passed, each number that one is refused with, and P minutes of no more than J.
 fn late_reports(rt: &impl Print) -> io::Result<()> {
-    text(rt, "Late reports\n")?;
-    let s = sample(1, 2, 2, 6, 4, 6, 2, 8);
+    println!(rt; "Late reports")?;
+    let s = sample((1, 2), (2, 6), (4, 6), (2, 8));
     late_cycle(rt, s, 4, 2, 2)?;
     late_cycle(rt, s, 4, 2, 3)?;
     late_cycle(rt, s, 4, 2, 1441)?;
     late_cycle(rt, s, 4, 3, 2)?;
     late_cycle(rt, s, 3, 2, 1)?;
     late_cycle(rt, s, 4, 1, 1)?;
-    late_cycle(rt, sample(1, 9, 1, 9, 9, 1, 1, 3), 4, 9, 3)
+    late_cycle(rt, sample((1, 9), (1, 9), (9, 1), (1, 3)), 4, 9, 3)
 }
 
 fn main(rt: HostRuntime) -> io::Result<()> {
