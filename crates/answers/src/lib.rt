@@ -16,6 +16,7 @@ use plan::moments::Contents;
 use plan::{Plan, Report};
 use spec::refusal::Refusal;
 
+// 3 to 6, as document 01 numbers the conditions.
 pub fn condition_number(c: Condition) -> u32
     ensures { result ≡ condition_number c }
 {

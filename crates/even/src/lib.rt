@@ -141,6 +141,7 @@ fn plan_at(spec: Spec, s: NonZeroU16) -> Plan
     }
 }
 
+// The even plan of a specification, or refusal 3, 4, 24 or 10.
 #[tactic(auto, unfolding(crate::specs::Even::even_plan), using(spec::proofs::Refusals::handed_on))]
 pub fn even_plan(spec: Spec) -> Result<Plan, Refusal>
     ensures { numbered result ≡ even_plan spec }

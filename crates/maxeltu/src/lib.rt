@@ -349,7 +349,7 @@ pub fn maxeltu_write_cycle(pairs: &[Pair], file: &mut [u8], written: &mut u32) -
 {
     let mut words = [0u16; 1024];
     let used = pairs::unpack(pairs, &mut words);
-    // The length is cast, so it is stored here.
+    // Stored here and not by `value_answer`: a length is a usize, and the place has 32 bits.
     match writer::write(&words[..used], file) {
         Ok(length) => {
             // It fits, as is proved: `try_from` would bring an error that never comes.
