@@ -17,7 +17,8 @@ use Rattle.spec.proofs.Facts.{facts}
 use Rattle.spec.proofs.GoingOn.{none_or}
 use Rattle.schedule.specs.Timed.{timed_stretch, timed_gap}
 use Rattle.schedule.specs.Rules.{SizesAllowed, GapsAllowed, SupplyKept, DemandMet, TimedObeys, SizeBroken, GapBroken, TooFull, TooThin}
-use Rattle.schedule.proofs.Rules.{not_both, not_kept, not_met}
+use Rattle.numbers.proofs.Tests.{not_both}
+use Rattle.schedule.proofs.Rules.{not_kept, not_met}
 use Rattle.lateness.specs.Delays.{EveryDelay, SomeDelay}
 use Rattle.lateness.specs.Lateness.{late_gap_allowed, late_supply, late_demand, lateness_number}
 use Rattle.lateness.proofs.Begins.{begins_0, begins_26, begins_iff, begins_26_iff}

@@ -15,7 +15,7 @@ use Rattle.std.specs.Prelude.{Ok, Err}
 use Rattle.std.proofs.lemmas.Bool.Decides.{nat_tests}
 use Rattle.numbers.proofs.All.{all_right}
 use Rattle.spec.specs.Limits.{if_none}
-use Rattle.schedule.proofs.Rules.{not_both}
+use Rattle.numbers.proofs.Tests.{not_both}
 use Rattle.duty.specs.Weeks.{Table, day_right, day_open, is_open, days_right, open_before, table_number, IsTable}
 use Rattle.duty.specs.Minutes.{calendar_minute, calendar_of, duty_of, table_of}
 use Rattle.duty.proofs.OpenMinutes.{before_none, before_more, before_rises, open_same, calendar_open, calendar_before, calendar_is}

@@ -9,10 +9,11 @@ use mathlib.Core.Path.{◌≡◌, refl, ◌∙◌}
 use mathlib.Core.Logic.{◌↔◌}
 use mathlib.Core.Bool.{Bool, true, false, cond}
 use Rattle.std.proofs.lemmas.Bool.Decides.{nat_tests}
+use Rattle.numbers.specs.Numbers.{first}
 use Rattle.schedule.specs.Schedules.{InRounds}
 use Rattle.schedule.proofs.Sums.{sum_none, sum_more, sum_again, sum_whole}
 use Rattle.duty.specs.Weeks.{Table, is_open, open_before}
-use Rattle.duty.specs.Minutes.{first_open, calendar_minute}
+use Rattle.duty.specs.Minutes.{calendar_minute}
 
 module _ (table : Table) where
   pub before_none : open_before table 0 ≡ 0
@@ -71,12 +72,12 @@ module _ (table : Table) where
     same : open_before table r ≡ open_before table m
     found : open_before table m < open_before table (m + n) → is_open table r ≡ true
 
-  first_found : (n m : ℕ) → Found n m (first_open table n m)
-  unfolding first_open
+  first_found : (n m : ℕ) → Found n m (first (is_open table) n m)
+  unfolding first
   first_found zero m = record { same = refl; found = λ h. absurd (let g = rw add-zero at h in omega arith) }
   first_found (suc n) m = pick (is_open table m) refl (first_found n (m + 1))
     where
-      pick : (b : Bool) → is_open table m ≡ b → Found n (m + 1) (first_open table n (m + 1)) → Found (suc n) m (elim b [ true ↦ m | false ↦ first_open table n (m + 1) ])
+      pick : (b : Bool) → is_open table m ≡ b → Found n (m + 1) (first (is_open table) n (m + 1)) → Found (suc n) m (elim b [ true ↦ m | false ↦ first (is_open table) n (m + 1) ])
       pick true e k = record { same = refl; found = λ h. e }
       pick false e k =
           let c = before_closed m e in
@@ -87,7 +88,7 @@ module _ (table : Table) where
           }
 
   module _ (some : 0 < open_before table 10_080) where
-    next_open : (m : ℕ) → is_open table (first_open table 10_080 m) ≡ true
+    next_open : (m : ℕ) → is_open table (first (is_open table) 10_080 m) ≡ true
     next_open m = (first_found 10_080 m).found (omega (arith, before_again m, some))
 
     -- the calendar minute of duty minute d is open, and d open ones are before it

@@ -11,7 +11,7 @@ use borrow.Author.Count.{below_more}
 use Rattle.std.specs.Prelude.{Result, Ok, Err}
 use Rattle.std.proofs.lemmas.Bool.Decides.{nat_tests}
 use Rattle.numbers.proofs.All.{all_right}
-use Rattle.schedule.proofs.Rules.{not_both}
+use Rattle.numbers.proofs.Tests.{not_both}
 use Rattle.spec.specs.Limits.{if_none}
 use Rattle.spec.specs.declared.refusal.Refusal.{Refusal}
 use Rattle.spec.specs.Refusals.{number_of}

@@ -2,19 +2,15 @@
 -- the calendar minute of a duty minute below 2³², and the duty minute of an open calendar minute below 2³²"; "27 .. first; 28 for a
 -- closed calendar minute, after it". `calendar_of_duty` and `duty_of_calendar` of the demands' page say of both, without a search, which
 -- minutes belong together.
-use Rattle.std.specs.Prelude.{ℕ, zero, suc, ◌+◌, ◌*◌, List, [], ◌∷◌, true, false, cond, eqb, length, get_or, Result, Ok, Err}
+use Rattle.std.specs.Prelude.{ℕ, zero, suc, ◌+◌, ◌*◌, List, [], ◌∷◌, cond, eqb, length, get_or, Result, Ok, Err}
+use Rattle.numbers.specs.Numbers.{first}
 use Rattle.spec.specs.Limits.{if_none}
 use Rattle.duty.specs.Weeks.{Table, is_open, open_before, table_number}
 
--- the first open one of the n minutes from m on; where none is, the one after them
-unfoldable pub first_open : Table → ℕ → ℕ → ℕ
-first_open table zero m = m
-first_open table (suc n) m = elim (is_open table m) [ true ↦ m | false ↦ first_open table n (m + 1) ]
-
 -- the calendar minute of duty minute d: "the first open minute from calendar minute 0 on", then each time the next. It comes within a week.
 unfoldable pub calendar_minute : Table → ℕ → ℕ
-calendar_minute table zero = first_open table 10_080 0
-calendar_minute table (suc d) = first_open table 10_080 (calendar_minute table d + 1)
+calendar_minute table zero = first (is_open table) 10_080 0
+calendar_minute table (suc d) = first (is_open table) 10_080 (calendar_minute table d + 1)
 
 -- "the calendar minute of a duty minute"
 unfoldable pub calendar_of : Table → ℕ → Result ℕ ℕ

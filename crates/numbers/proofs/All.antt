@@ -6,6 +6,7 @@ use mathlib.Core.Path.{◌≡◌, refl, sym, ◌∙◌}
 use mathlib.Core.Logic.{◌↔◌}
 use mathlib.Core.Bool.{Bool, true, false}
 use Rattle.numbers.specs.Numbers.{all}
+use Rattle.numbers.proofs.Tests.{not_both}
 
 pub all_right : (f : ℕ → Bool) (n : ℕ) → (all f n ≡ true) ↔ ((j : ℕ) → j < n → f j ≡ true)
 unfolding all
@@ -17,7 +18,7 @@ all_right f (suc n) = last (f n) refl (all_right f n)
     last true e ih =
         (λ a j h. elim (dec_lt j n) [ yes q ↦ ih.0 a j q | no q ↦ let z : j ≡ n = omega arith in rw z e ], λ h. ih.1 (λ j q. h j (omega arith)))
     last false e ih =
-        (λ a. absurd (let z : ◌≡◌ {A = ℕ} 0 1 = cc in omega arith), λ h. absurd (let x = h n (omega arith) in let z : ◌≡◌ {A = ℕ} 0 1 = cc in omega arith))
+        (λ a. absurd (not_both false a refl), λ h. absurd (not_both (f n) (h n (omega arith)) e))
 
 -- the two answers as a loop finds them
 pub one_fails : (f : ℕ → Bool) (n j : ℕ) → j < n → f j ≡ false → false ≡ all f n
@@ -25,7 +26,7 @@ one_fails f n j h e = pick (all f n) refl
   where
     pick : (b : Bool) → all f n ≡ b → false ≡ b
     pick false q = refl
-    pick true q = absurd (let x = (all_right f n).0 q j h in let z : ◌≡◌ {A = ℕ} 0 1 = cc in omega arith)
+    pick true q = absurd (not_both (f j) ((all_right f n).0 q j h) e)
 
 pub all_pass : (f : ℕ → Bool) (n j : ℕ) → n ≤ j → ((i : ℕ) → i < j → f i ≡ true) → true ≡ all f n
 all_pass f n j h k = sym ((all_right f n).1 (λ i q. k i (omega arith)))
@@ -33,7 +34,7 @@ all_pass f n j h k = sym ((all_right f n).1 (λ i q. k i (omega arith)))
 -- where not all are true, one is false
 pub some_fails : (f : ℕ → Bool) (n : ℕ) → all f n ≡ false → (j : ℕ) × ((j < n) × (f j ≡ false))
 unfolding all
-some_fails f zero e = absurd (let z : ◌≡◌ {A = ℕ} 0 1 = cc in omega arith)
+some_fails f zero e = absurd (not_both true refl e)
 some_fails f (suc n) e = last (f n) refl e (some_fails f n)
   where
     last : (b : Bool) → f n ≡ b → elim b [ true ↦ all f n | false ↦ false ] ≡ false → (all f n ≡ false → (j : ℕ) × ((j < n) × (f j ≡ false))) → (j : ℕ) × ((j < suc n) × (f j ≡ false))

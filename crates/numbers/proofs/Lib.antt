@@ -1,3 +1,5 @@
 pub mod Cases
+pub mod Tests
 pub mod Ceilings
 pub mod All
+pub mod Firsts

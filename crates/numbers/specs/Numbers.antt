@@ -1,4 +1,4 @@
--- What document 01 uses of numbers and does not explain.
+-- What documents 01 and 02 use of numbers and do not explain.
 use Rattle.std.specs.Prelude.{ℕ, zero, suc, ◌+◌, ◌-◌, ◌/◌, Bool, true, false}
 
 -- ⌈a/b⌉
@@ -9,3 +9,8 @@ ceil a b = (a + (b - 1)) / b
 unfoldable pub all : (ℕ → Bool) → ℕ → Bool
 all f zero = true
 all f (suc n) = elim (f n) [ true ↦ all f n | false ↦ false ]
+
+-- the first of the n numbers from i on of which f is true; i + n where it is true of none
+unfoldable pub first : (ℕ → Bool) → ℕ → ℕ → ℕ
+first f zero i = i
+first f (suc n) i = elim (f i) [ true ↦ i | false ↦ first f n (i + 1) ]

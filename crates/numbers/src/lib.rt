@@ -1,4 +1,5 @@
-// Arithmetic that several crates need: division rounded up. The laws of it, and a test of all below a number, are here too.
+// Arithmetic that several crates need: division rounded up. The laws of it, a test of all below a number, and the first number that passes a test
+// are here too.
 #![tactic(auto)]
 
 ghost use Rattle.std.specs.Prelude.{◌≡◌};

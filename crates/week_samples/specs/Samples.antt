@@ -2,11 +2,11 @@
 -- every value that it prints.
 use Rattle.std.specs.Prelude.{ℕ, ◌≡◌, refl, List, [], ◌∷◌, Bool, true, false, ◌&&◌, eqb, Result, Ok, Err}
 use Rattle.std.specs.List.{list_all}
-use Rattle.numbers.specs.Numbers.{all}
+use Rattle.numbers.specs.Numbers.{all, first}
 use Rattle.spec.specs.Limits.{if_none}
 use Rattle.schedule.specs.Schedules.{sum}
 use Rattle.duty.specs.Weeks.{Table, day_right, day_open, is_open, open_before, days_right, table_number}
-use Rattle.duty.specs.Minutes.{first_open, calendar_minute, calendar_of, duty_of}
+use Rattle.duty.specs.Minutes.{calendar_minute, calendar_of, duty_of}
 
 -- what is said of a table: its number; that a duty minute and a calendar minute belong together; the number that a calendar minute gets
 pub data Claim : Type 0 where
@@ -75,5 +75,5 @@ samples_hold = list_all (λ x. list_all (claim_holds x.table) x.claims)
 
 -- Every value of the table is what the definitions compute.
 pub samples_hold_lem : samples_hold samples ≡ true
-unfolding samples_hold samples week rest day claim_holds minute_is refused_with table_number days_right all day_right day_open is_open open_before sum first_open calendar_minute calendar_of duty_of if_none
+unfolding samples_hold samples week rest day claim_holds minute_is refused_with table_number days_right all day_right day_open is_open open_before sum first calendar_minute calendar_of duty_of if_none
 samples_hold_lem = refl

@@ -1,0 +1,29 @@
+-- The first number that passes a test: none before it does.
+use Prim.Native.Nat.{ℕ, zero, suc, ◌+◌, ◌≤◌, ◌<◌}
+use native.Mathlib.Omega.{arith}
+use native.Mathlib.Decide.{ℕ_discrete}
+use mathlib.Core.Path.{◌≡◌, refl}
+use mathlib.Core.Bool.{Bool, true, false}
+use Rattle.numbers.specs.Numbers.{first}
+use Rattle.numbers.proofs.Tests.{not_both}
+
+-- r is the first number from i on that passes
+pub record IsFirst (f : ℕ → Bool) (i r : ℕ) : Type 0 where
+  pub from : i ≤ r
+  pub passes : f r ≡ true
+  pub least : (k : ℕ) → i ≤ k → f k ≡ true → r ≤ k
+
+-- where some number among them passes, the first is found
+pub first_right : (f : ℕ → Bool) (n i k : ℕ) → i ≤ k → k < i + n → f k ≡ true → IsFirst f i (first f n i)
+unfolding first
+first_right f zero i k a b e = absurd (omega arith)
+first_right f (suc n) i k a b e = pick (f i) refl (first_right f n (i + 1) k)
+  where
+    pick : (t : Bool) → f i ≡ t → (i + 1 ≤ k → k < i + 1 + n → f k ≡ true → IsFirst f (i + 1) (first f n (i + 1)))
+        → IsFirst f i (elim t [ true ↦ i | false ↦ first f n (i + 1) ])
+    pick true h ih = record { from = omega arith; passes = h; least = λ j p q. p }
+    pick false h ih =
+        let later : (j : ℕ) → i ≤ j → f j ≡ true → i + 1 ≤ j =
+        λ j p q. elim (ℕ_discrete i j) [ yes z ↦ absurd (not_both (f i) (rw (← z) at q) h) | no z ↦ omega arith ] in
+        let r = ih (later k a e) (omega arith) e in
+        record { from = omega (arith, r.from); passes = r.passes; least = λ j p q. r.least j (later j p q) q }
