@@ -3,6 +3,7 @@ pub mod Stretches
 pub mod Before
 pub mod Moments
 pub mod StretchSum
+pub mod Begun
 pub mod Repeats
 pub mod Timed
 pub mod Rules

@@ -2,15 +2,14 @@
 -- in a stretch, and the starts of one round at which the rules need be shown.
 use Prim.Native.Nat.{ℕ, zero, suc, ◌+◌, ◌-◌, ◌*◌, ◌/◌, ◌%◌, ◌≤◌, ◌<◌}
 use native.Mathlib.Omega.{arith}
-use native.Mathlib.Nat.{add_assoc, add-zero, zero-add, add_right_comm, suc-mul, zero-mul, mod-add-div', div-add-mod', mod-lt}
-use native.Mathlib.Numerals.{add-one}
+use native.Mathlib.Nat.{add_assoc, add-zero, zero-add, add_comm, suc-mul, zero-mul, mod-add-div', div-add-mod', mod-lt}
 use mathlib.Core.Path.{◌≡◌, sym, ◌∙◌, ap}
-use mathlib.Core.Logic.{◌↔◌, ⊎_elim}
-use Rattle.numbers.proofs.Cases.{lt_cases}
-use Rattle.schedule.specs.Schedules.{Schedule, sum, InRounds, minute, stretch}
-use Rattle.schedule.proofs.Sums.{sum_again, sum_whole, block, block_none, block_more, block_round}
+use mathlib.Core.Logic.{◌↔◌}
+use Rattle.schedule.specs.Schedules.{Schedule, sum, InRounds, minute, begun_at, stretch}
+use Rattle.schedule.proofs.Sums.{sum_again, sum_whole, block_round}
 use Rattle.schedule.proofs.Stretches.{stretch_block}
-use Rattle.schedule.proofs.Before.{reports_before, minute_least, minute_rise, before_iff, before_le, stretch_before, stretch_add, fullest_at_report, thinnest_after_report}
+use Rattle.schedule.proofs.Begun.{before_begun, stretch_begun}
+use Rattle.schedule.proofs.Before.{reports_before, minute_least, before_iff, before_le, stretch_add, fullest_at_report, thinnest_after_report}
 
 pub minute_again : (s : Schedule) (c : ℕ) → ((i : ℕ) → s.gap (i + c) ≡ s.gap i) → (i : ℕ) → minute s (i + c) ≡ minute s i + minute s c
 unfolding minute
@@ -22,23 +21,17 @@ unfolding minute
 minute_whole s c gap_again = sum_whole s.gap c gap_again
 
 module _ (s : Schedule) (later : (i : ℕ) → 1 ≤ s.gap i) (c : ℕ) (size_again : (i : ℕ) → s.size (i + c) ≡ s.size i) (gap_again : (i : ℕ) → s.gap (i + c) ≡ s.gap i) where
-  block_again : (lo n : ℕ) → block s.size (lo + c) n ≡ block s.size lo n
-  block_again lo zero = rw (block_none s.size (lo + c), block_none s.size lo)
-  block_again lo (suc n) =
-      rw (← add-one n, block_more s.size (lo + c) n, block_more s.size lo n, block_again lo n, add_right_comm lo c n, size_again (lo + n))
+  -- begun at the next round it is the same schedule
+  begun_same : begun_at s c ≡ s
+  unfolding begun_at
+  begun_same = λ j. record {
+    size = λ i. (ap s.size (add_comm c i) ∙ size_again i) j;
+    gap = λ i. (ap s.gap (add_comm c i) ∙ gap_again i) j;
+  }
 
   -- a round later there are c reports more before
   before_again : (a i : ℕ) → minute s i < a + minute s c ↔ i < reports_before s a + c
-  before_again a i = ⊎_elim early late (lt_cases i c)
-    where
-      early : i < c → minute s i < a + minute s c ↔ i < reports_before s a + c
-      early h = (λ x. omega arith, λ x. omega (arith, minute_rise s later i c h))
-
-      late : c ≤ i → minute s i < a + minute s c ↔ i < reports_before s a + c
-      late h =
-          let e : minute s i ≡ minute s (i - c) + minute s c = let z : i - c + c ≡ i = omega arith in rw z at (minute_again s c gap_again (i - c)) in
-          let r = before_iff s later a (i - c) in
-          (λ x. let y = r.0 (omega arith) in omega arith, λ x. let y = r.1 (omega arith) in omega arith)
+  before_again a i = rw (add_comm a (minute s c), add_comm (reports_before s a) c) (rw begun_same at (before_begun s later c a i))
 
   -- every stretch of one round holds the records of a round
   pub stretch_round : (a : ℕ) → stretch s a (minute s c) ≡ sum s.size c
@@ -49,12 +42,7 @@ module _ (s : Schedule) (later : (i : ℕ) → 1 ≤ s.gap i) (c : ℕ) (size_ag
       ∙ block_round s.size c size_again (reports_before s a)
 
   pub stretch_again : (a w : ℕ) → stretch s (a + minute s c) w ≡ stretch s a w
-  stretch_again a w =
-      let e : a + minute s c + w ≡ a + w + minute s c = omega arith in
-      let z : reports_before s (a + w) + c - (reports_before s a + c) ≡ reports_before s (a + w) - reports_before s a = omega arith in
-      stretch_block s (a + minute s c) w (reports_before s a + c) (reports_before s (a + w) + c) (before_again a) (rw e (before_again (a + w)))
-      (omega (arith, before_le s later (a + w), minute_least s later c))
-      ∙ rw (z, block_again (reports_before s a), stretch_before s later a w)
+  stretch_again a w = rw (add_comm a (minute s c)) (sym (rw begun_same at (stretch_begun s later c a w)))
 
   pub stretch_rounds : (a q w : ℕ) → stretch s (a + q * minute s c) w ≡ stretch s a w
   stretch_rounds a zero w = rw (zero-mul, add-zero)

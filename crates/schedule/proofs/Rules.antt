@@ -1,17 +1,13 @@
 -- No rule is both kept and broken.
 use Prim.Native.Nat.{ℕ}
 use native.Mathlib.Omega.{arith}
-use mathlib.Core.Path.{◌≡◌}
 use mathlib.Core.Logic.{⊎_elim}
-use mathlib.Core.Bool.{Bool, true, false}
+use Rattle.numbers.proofs.Tests.{not_both}
 use Rattle.spec.specs.declared.Rate.{Rate}
 use Rattle.std.specs.Prelude.{Option, None, Some}
 use Rattle.spec.specs.declared.Spec.{Spec}
 use Rattle.schedule.specs.Schedules.{Schedule}
 use Rattle.schedule.specs.Rules.{SupplyKept, DemandMet, Obeys, TooFull, TooThin, Breaks}
-
-pub not_both : (b : Bool) → b ≡ true → b ≡ false → ⊥
-not_both b p q = absurd (let z : ◌≡◌ {A = ℕ} 0 1 = cc in omega arith)
 
 pub not_kept : (rate : Option Rate) (held : ℕ → ℕ → ℕ) → SupplyKept rate held → TooFull rate held → ⊥
 not_kept None held kept full = full

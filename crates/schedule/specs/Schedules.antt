@@ -21,6 +21,10 @@ InRounds c g = (n : ℕ) → g n ≡ n / c * g c + g (n % c)
 unfoldable pub minute : Schedule → ℕ → ℕ
 minute s i = sum s.gap i
 
+-- document 02, Req 12: "one endless run, begun at some report": from report k on
+unfoldable pub begun_at : Schedule → ℕ → Schedule
+begun_at s k = record { size = λ i. s.size (k + i); gap = λ i. s.gap (k + i) }
+
 -- Report i is at minute t. What those of the n reports from it on hold that are at minutes a to e - 1.
 -- Minutes never fall, so it ends at the first report at e or later.
 unfoldable pub held_from : Schedule → ℕ → ℕ → ℕ → ℕ → ℕ → ℕ
