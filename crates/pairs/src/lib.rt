@@ -1,21 +1,38 @@
 // A cycle in memory: a lent list of pairs, gap then size. `unpack` copies such a list into lent 16-bit numbers, and `pack` copies them
-// back into a lent list: these two hold the only loops over lent pairs, so that every other function that works on a cycle takes a
-// flat slice. What a cycle's gaps and sizes may be, and how a cycle is written to a file, is left to others.
+// back into a lent list. Every function that works on a cycle, but for those of the crate `normal`, takes a flat slice. What a cycle's gaps and sizes may be, and how a cycle is written to a file, is left to others.
 #![tactic(auto)]
 
-ghost use Rattle.std.specs.Prelude.{◌≡◌, ◌*◌, ◌/◌, length};
+ghost use Rattle.std.specs.Prelude.{◌≡◌, ◌==◌, ◌*◌, ◌/◌, length};
+ghost use Rattle.std.proofs.Common.{rules};
+ghost use Rattle.std.specs.Cmp.Rules.{comparing};
+ghost use Rattle.std.specs.Ordering.{on, eq_of_both};
 ghost use Rattle.pairs.specs.Pairs.{count_in, flatten, pairs_of, laid_over, that_fit};
 
 // The most pairs that a cycle has.
 pub const MOST_PAIRS: usize = 512;
 
 #[repr(C)]
-#[derive(Clone, Copy, Debug, PartialEq, Eq)]
+#[derive(Clone, Copy, Debug)]
 pub struct Pair {
     // Minutes from this report to the next.
     pub gap: u16,
     // Records of this report.
     pub size: u16,
+}
+
+impl PartialEq for Pair {
+    ghost eq = { eq_of_both (on (λ p. p.gap) ◌==◌) (on (λ p. p.size) ◌==◌) };
+
+    ghost laws = { Prim.search (comparing, rules) };
+
+    // With no branch between the two, so that slices of pairs are compared many pairs at a time: a derived `==` would have one.
+    fn eq(&self, other: &Pair) -> bool {
+        (self.gap == other.gap) & (self.size == other.size)
+    }
+}
+
+impl Eq for Pair {
+    ghost laws = { Prim.search (comparing, rules) };
 }
 
 // Whether so many pairs are a cycle.
