@@ -1,0 +1,9 @@
+pub mod Orders
+pub mod Periods
+pub mod Shifted
+pub mod Turns
+pub mod TwoParts
+pub mod LeastTurn
+pub mod Normalised
+pub mod SameCycles
+pub mod SameNumbers
