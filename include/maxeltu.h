@@ -37,9 +37,9 @@
  *    them writes. So one meter belongs to one thread at a time.
  *  - A call that checks, bills, reads or writes a cycle holds it once, unpacked,
  *    on the stack: 2,048 bytes, and with all else that it needs at most some
- *    2,450 (measured on x86-64; tests/c/stack.c tells it of another build). A check
+ *    2,400 (measured on x86-64; tests/c/stack.c tells it of another build). A check
  *    looks at each pair a fixed number of times at most, whatever R, P and the
- *    lateness are.
+ *    lateness are. A normal form is found with no copy of the cycle.
  *
  * Specification file: one byte of bit map (bit 0, the lowest, size; 1 gap;
  * 2 supply; 3 demand; 4 duration; 5 second range of gaps). Then, in that order,
@@ -94,7 +94,7 @@ enum maxeltu_refusal {
     MAXELTU_TOO_THIN = 16,        /* some P minutes hold fewer than L records */
     MAXELTU_TOO_LATE = 26,        /* the lateness is above MAXELTU_MAX_LATENESS */
 
-    /* A cycle's file, and the room lent for a cycle or its file. */
+    /* A cycle's file, and the room lent for a cycle, its normal form or its file. */
     MAXELTU_PAIR_MAP = 17,        /* a pair's bit map has bit 2 to 7, or the first pair lacks a field */
     MAXELTU_FILE_CUT = 18,        /* the file ends early, in its count, a map byte or a field: fetch it again */
     MAXELTU_FIELD_REPEATED = 19,  /* a field that should have been left out: it equals the one before */
@@ -387,6 +387,28 @@ uint32_t maxeltu_cycle_cost(const uint8_t *spec, size_t spec_len,
                             const struct maxeltu_pair *pairs, size_t count,
                             uint32_t reports,
                             uint64_t *tenths, uint64_t *cents);
+
+/*
+ * The normal form of a cycle of `count` pairs: the shortest list whose endless
+ * repetition is the cycle's, turned so that it comes first in the order by gap,
+ * then size, pair by pair. Gaps and sizes may be any 16-bit numbers, 0 too.
+ *
+ * Two cycles have equal normal forms, as many pairs and each the same, exactly when the endless repetition of one,
+ * begun at some report, is that of the other: so a cycle that starts at another
+ * pair, or is written out twice, has the same. The normal form of a normal form is
+ * itself, and every check gives a cycle and its normal form the same answer, with
+ * every lateness.
+ *
+ * Answers 0; 12 where count is 0 or above 512; 20 where `places` are fewer than
+ * the pairs of the normal form (as many places as the cycle has pairs are always
+ * enough).
+ * Reads `count` pairs; of more than 512, none.
+ * Writes the normal form to the first *normal_count places, and *normal_count.
+ * Places past it keep their contents; so do all places where the answer is not 0.
+ */
+uint32_t maxeltu_normal_form(const struct maxeltu_pair *pairs, size_t count,
+                             struct maxeltu_pair *normal, size_t places,
+                             uint32_t *normal_count);
 
 /*
  * Reads a cycle file into a lent list of `places` pairs.

@@ -71,7 +71,7 @@ bill_answer (Ok x) = yields (x.tenths ∷ x.cents ∷ [])
 bill_answer (Err n) = refusal n
 
 -- One number: that of the last or the nearest report, or 11 (document 02, Req 05); the calendar minute of a duty minute, or 27, and the duty
--- minute of an open calendar minute, or 27, 28 (document 02, Req 11).
+-- minute of an open calendar minute, or 27, 28 (document 02, Req 11); how many pairs a normal form has, or 12, 20 (document 02, Req 12).
 abbrev pub value_answer : Result ℕ ℕ → Answer
 value_answer (Ok x) = yields (x ∷ [])
 value_answer (Err n) = refusal n

@@ -14,6 +14,7 @@ use Rattle.feasibility.specs.Test.{test_of}
 use Rattle.even.specs.Even.{even_plan}
 use Rattle.pairs.specs.declared.Pair.{Pair}
 use Rattle.cost.specs.Bills.{plan_bill, cycle_bill}
+use Rattle.normal.specs.Answers.{normalised}
 use Rattle.duty.specs.Minutes.{calendar_of, duty_of, table_of}
 use Rattle.answers.specs.Answers.{Answer, refusal, consistency_answer, scheduled_answer, tested_answer, even_answer, report_answer, contents_answer, bill_answer, value_answer}
 
@@ -59,6 +60,10 @@ plan_cost_call kind k π δ reports = if_named (plan_named kind k π δ) (λ p. 
 
 unfoldable pub cycle_cost_call : List ℕ → List Pair → (reports : ℕ) → Answer
 cycle_cost_call bytes ps reports = if_read (read_spec bytes) (λ s. bill_answer (cycle_bill s ps reports)) refusal
+
+-- the normal form of a list of pairs, for a lent list of so many places
+unfoldable pub normal_call : List Pair → (places : ℕ) → Answer
+normal_call ps places = value_answer (normalised places ps)
 
 -- a call on a week table, which comes as a list of numbers
 unfoldable pub calendar_call : List ℕ → (duty : ℕ) → Answer

@@ -2,8 +2,8 @@
 // number of the refusal; a lent place is written only where the answer is 0, the condition of an inconsistent specification only where it
 // is 7, and the budget left after every offer to a meter that has one to tell.
 // A call that plans, tests, checks or bills goes on from the reader's answer by `let .. else`, and from a plan that is named likewise: the form
-// that document 01 asks for. A plan comes as four numbers, as C has them. A call over a cycle has 1,024 words of its own, what 512 pairs take,
-// since a box has no heap.
+// that document 01 asks for. A plan comes as four numbers, as C has them. A call that checks, bills, reads or writes a cycle has 1,024
+// words of its own, what 512 pairs take, since a box has no heap; a normal form is found where the pairs lie.
 #![tactic(auto)]
 
 ghost use Rattle.std.specs.Prelude.{◌≡◌, length};
@@ -13,12 +13,13 @@ ghost use Rattle.cycle.specs.Check.{check_file_number};
 ghost use Rattle.cycle.specs.LateCheck.{late_file_number};
 ghost use Rattle.cyclefile.specs.File.{read_cycle, Reads, Writes};
 ghost use Rattle.families.specs.declared.Family.TheVariants.{MinimumDemand, MaximumSupply};
+ghost use Rattle.normal.specs.Answers.{places_after};
 ghost use Rattle.meter.specs.Ring.{fresh, stepped, told_or};
 ghost use Rattle.duty.specs.Weeks.{table_number};
 ghost use Rattle.duty.specs.Minutes.{table_of};
 ghost use Rattle.answers.specs.Answers.{held_after};
 ghost use Rattle.maxeltu.specs.Verdict.{verdict_of};
-ghost use Rattle.maxeltu.specs.Calls.{consistency_call, schedule_call, test_call, even_call, plan_named, report_call, last_call, nearest_call, between_call, plan_cost_call, cycle_cost_call, calendar_call, duty_call};
+ghost use Rattle.maxeltu.specs.Calls.{consistency_call, schedule_call, test_call, even_call, plan_named, report_call, last_call, nearest_call, between_call, plan_cost_call, cycle_cost_call, normal_call, calendar_call, duty_call};
 
 use cyclefile::reading;
 use families::Family;
@@ -325,6 +326,16 @@ pub fn maxeltu_cycle_cost(
     let mut words = [0u16; 1024];
     let used = pairs::unpack(pairs, &mut words);
     answers::bill_answer(cost::cycle_cost(s, &words[..used], reports), tenths, cents)
+}
+
+// The normal form of a lent list of pairs, stored in another.
+#[tactic(auto, unfolding(crate::specs::Calls::normal_call), using(answers::proofs::Places::after_refusal, answers::proofs::Places::value_number, answers::proofs::Places::value_place))]
+pub fn maxeltu_normal_form(pairs: &[Pair], normal: &mut [Pair], normal_count: &mut u32) -> u32
+    ensures { (result ≡ (normal_call pairs.now (length normal.old)).number)
+        × (normal.new ≡ places_after pairs.now normal.old)
+        × (normal_count.new ≡ held_after 0 0 (normal_call pairs.now (length normal.old)) normal_count.old) }
+{
+    answers::value_answer(normal::normal_form(pairs, normal), normal_count)
 }
 
 // Reads a cycle file into a lent list of pairs. Nothing is stored there before the whole file is read.

@@ -9,12 +9,13 @@ ghost use Rattle.cycle.specs.LateCheck.{late_file_number};
 ghost use Rattle.pairs.specs.Pairs.{flatten, pairs_of, laid_over};
 ghost use Rattle.cyclefile.specs.File.{read_cycle, stored_pairs, Reads, Writes};
 ghost use Rattle.families.specs.declared.Family.TheVariants.{MinimumDemand, MaximumSupply};
+ghost use Rattle.normal.specs.Answers.{places_after};
 ghost use Rattle.meter.specs.Ring.{fresh, stepped, told_or};
 ghost use Rattle.duty.specs.Weeks.{table_number};
 ghost use Rattle.duty.specs.Minutes.{table_of};
 ghost use Rattle.answers.specs.Answers.{held_after};
 ghost use Rattle.maxeltu.specs.Verdict.{verdict_of};
-ghost use Rattle.maxeltu.specs.Calls.{consistency_call, schedule_call, test_call, even_call, plan_named, report_call, last_call, nearest_call, between_call, plan_cost_call, cycle_cost_call, calendar_call, duty_call};
+ghost use Rattle.maxeltu.specs.Calls.{consistency_call, schedule_call, test_call, even_call, plan_named, report_call, last_call, nearest_call, between_call, plan_cost_call, cycle_cost_call, normal_call, calendar_call, duty_call};
 
 use meter::Meter;
 use pairs::Pair;
@@ -224,6 +225,20 @@ pub extern "C" fn maxeltu_cycle_cost(
         × (cents.new ≡ held_after 0 1 (cycle_cost_call spec_bytes.now pairs.now reports) cents.old) }
 {
     maxeltu::maxeltu_cycle_cost(spec_bytes, pairs, reports, tenths, cents)
+}
+
+// The normal form of a lent list of pairs, stored in another.
+#[unsafe(no_mangle)]
+pub extern "C" fn maxeltu_normal_form(
+    pairs: &[Pair],
+    normal: &mut [Pair],
+    normal_count: &mut u32,
+) -> u32
+    ensures { (result ≡ (normal_call pairs.now (length normal.old)).number)
+        × (normal.new ≡ places_after pairs.now normal.old)
+        × (normal_count.new ≡ held_after 0 0 (normal_call pairs.now (length normal.old)) normal_count.old) }
+{
+    maxeltu::maxeltu_normal_form(pairs, normal, normal_count)
 }
 
 // Reads a cycle file into a lent list of pairs. Nothing is stored there before the whole file is read.

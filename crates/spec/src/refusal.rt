@@ -20,7 +20,7 @@ pub enum Refusal {
     // The even plan; the reports of a plan.
     NoEvenPlan = 10,
     NotProper = 11,
-    // Checking a cycle; reading and writing one begins with Count too.
+    // Checking a cycle; reading and writing one, and its normal form, begin with Count too.
     Count = 12,
     Gap = 13,
     Size = 14,
@@ -28,7 +28,7 @@ pub enum Refusal {
     TooThin = 16,
     // Checking a cycle whose reports may be late, before Count.
     TooLate = 26,
-    // Reading and writing a cycle file.
+    // Reading and writing a cycle file; its normal form gets NoRoom too.
     PairMap = 17,
     Cut = 18,
     NotLeftOut = 19,
