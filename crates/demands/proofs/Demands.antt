@@ -11,7 +11,7 @@ use borrow.Author.Tests.{ne_eqb}
 use Rattle.spec.specs.declared.Spec.{Spec}
 use Rattle.std.specs.Prelude.{Result, Ok, Err}
 use Rattle.spec.specs.Limits.{IsAccepted}
-use Rattle.spec.specs.File.{read_spec}
+use Rattle.spec.specs.File.{read_spec, if_read}
 use Rattle.spec.proofs.AnyBytes.{SpecIsRead, spec_is_read}
 use Rattle.spec.proofs.Facts.{gap_in_either, number_24, gap_allowed_least, gap_allowed_pos}
 use Rattle.schedule.specs.Schedules.{Schedule, minute}
@@ -48,7 +48,7 @@ use Rattle.cycle.proofs.LatePassed.{late_passed, late_gap, late_size, late_full,
 use Rattle.cycle.proofs.Rounds.{whole_rounds}
 use Rattle.cost.proofs.Rounds.{plan_in_rounds, cycle_in_rounds}
 use Rattle.cost.proofs.Billing.{plan_billed, plan_in_bands, cycle_billed, cycle_in_bands}
-use Rattle.cyclefile.specs.File.{read_cycle, write_number, Reads, bytes_after}
+use Rattle.cyclefile.specs.File.{cycle_bytes, read_cycle, write_number, Reads, bytes_after}
 use Rattle.cyclefile.proofs.RoundTrip.{reads_back, writes_back, reads_cycles}
 use Rattle.cyclefile.proofs.Refusals.{CycleRefusal, cycle_numbered}
 use Rattle.cyclefile.proofs.CutOrOver.{cut_off, number_stays, over_refused, over_whole}
@@ -57,6 +57,11 @@ use Rattle.meter.proofs.Steps.{refused_meter_kept}
 use Rattle.meter.proofs.SameAnswers.{same_answers, holds_few}
 use Rattle.meter.proofs.Budget.{budget_kept}
 use Rattle.maxeltu.specs.Verdict.{verdict_read, verdict_of}
+use Rattle.normal.specs.Normal.{least_start, normal_form}
+use Rattle.normal.proofs.Orders.{order_total, order_antisymmetric, order_transitive}
+use Rattle.normal.proofs.Normalised.{refused_kept, normal_numbers}
+use Rattle.normal.proofs.SameCycles.{same_cycle, normal_some, normal_short, normal_run, normal_least, normal_twice}
+use Rattle.normal.proofs.SameNumbers.{check_same, late_same, check_file_same, late_file_same}
 use Rattle.demands.specs.Demands.{KeptOnDuty, Demands}
 
 -- a cycle's file, by what it is read to
@@ -112,6 +117,18 @@ passes_on : (spec cycle : List ℕ) (s : Spec) (n : ℕ) → read_spec spec ≡ 
 unfolding verdict_of verdict_read
 passes_on spec cycle s n a e = rw (a, e)
 
+-- the loader's call reads back the cycles of both files, and checks them
+loaded_same : (spec : List ℕ) (c : List Pair) → 1 ≤ length c → length c ≤ 512 → verdict_of spec (cycle_bytes (normal_form c)) ≡ verdict_of spec (cycle_bytes c)
+unfolding verdict_of verdict_read
+loaded_same spec c some few =
+    let short : length (normal_form c) ≤ 512 = omega (arith, normal_short c some) in
+    by (read_spec spec) (reads_back 512 (normal_form c) (normal_some c some) short short) (reads_back 512 c some few few)
+  where
+    by : (read : Result Spec ℕ) → read_cycle 512 (cycle_bytes (normal_form c)) ≡ Ok (normal_form c) → read_cycle 512 (cycle_bytes c) ≡ Ok c
+        → if_read read (λ s. verdict_read s (read_cycle 512 (cycle_bytes (normal_form c)))) (λ n. n) ≡ if_read read (λ s. verdict_read s (read_cycle 512 (cycle_bytes c))) (λ n. n)
+    by (Ok s) a b = rw (a, b) (check_same c some few s)
+    by (Err n) a b = refl
+
 -- A schedule on duty minutes: no gap of it is below smin, and on the calendar each is as long, or longer.
 kept_on_duty : (table : Table) (s : Spec) (t : Schedule) → IsTable table → IsAccepted s → Obeys s t → KeptOnDuty table s t
 kept_on_duty table s t valid accepted obeys =
@@ -134,6 +151,7 @@ demands = record {
   number_stays = number_stays;
   refused_list_kept = λ file held held' count count' n. list_kept (read_cycle (length held) file) held held' count count' n;
   refused_bytes_kept = bytes_kept;
+  refused_places_kept = refused_kept;
   refused_meter_kept = refused_meter_kept;
   gap_in_either = gap_in_either;
   ranges_apart = number_24;
@@ -180,6 +198,14 @@ demands = record {
   duty_27 = duty_27;
   duty_28 = duty_28;
   distances_kept = λ table d e valid. calendar_apart table (table_facts table valid).1 d e;
+  same_cycle = same_cycle;
+  normal_run = λ c some. (normal_some c some, normal_short c some, (least_start c, normal_run c some));
+  normal_least = normal_least;
+  order_total = order_total;
+  order_antisymmetric = order_antisymmetric;
+  order_transitive = order_transitive;
+  normal_twice = normal_twice;
+  normal_numbers = normal_numbers;
   reads_back = reads_back;
   written_bytes = writes_bytes;
   writes_back = writes_back;
@@ -199,6 +225,9 @@ demands = record {
   too_late = too_late;
   on_time = on_time_same;
   late_less = late_less;
+  normal_number = λ s lateness c some few. (check_same c some few s, late_same c some few s lateness);
+  normal_file_number = λ spec lateness c some few.
+      (check_file_same c some few (read_spec spec), late_file_same c some few (read_spec spec) lateness, loaded_same spec c some few);
   test_obeys = test_sound;
   even_obeys = even_plan_obeys;
   even_refused = even_plan_refused;

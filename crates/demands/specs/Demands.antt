@@ -7,7 +7,7 @@ use Rattle.spec.specs.declared.Rates.{Rates}
 use Rattle.spec.specs.Rates.{HasTwoRanges, both_rates}
 use Rattle.spec.specs.Limits.{rate_of, range_of, limits, order, spec_number, IsAccepted, gap_allowed}
 use Rattle.spec.specs.File.{read_spec}
-use Rattle.schedule.specs.Schedules.{Schedule, sum, InRounds, minute, stretch, in_stretch, share}
+use Rattle.schedule.specs.Schedules.{Schedule, sum, InRounds, minute, begun_at, stretch, in_stretch, share}
 use Rattle.schedule.specs.Moments.{IsLast, IsNearest, counted}
 use Rattle.schedule.specs.Timed.{Timed, timed_share, timed_stretch, timed_gap, planned}
 use Rattle.schedule.specs.Rules.{SizesAllowed, GapsAllowed, SupplyKept, Obeys, TimedObeys, SizeBroken, GapBroken, TooFull, TooThin, Breaks}
@@ -30,8 +30,10 @@ use Rattle.feasibility.specs.Test.{family_of, figure_passes, test_of, BestOfAll}
 use Rattle.even.specs.Even.{even_plan, evenly}
 use Rattle.pairs.specs.declared.Pair.{Pair}
 use Rattle.cycle.specs.Cycles.{pair_gap, cycle_run, round, round_records}
-use Rattle.cycle.specs.Check.{check_number}
-use Rattle.cycle.specs.LateCheck.{late_number}
+use Rattle.cycle.specs.Check.{check_number, check_file_number}
+use Rattle.cycle.specs.LateCheck.{late_number, late_file_number}
+use Rattle.normal.specs.Normal.{in_order, normal_form}
+use Rattle.normal.specs.Answers.{normalised, places_after}
 use Rattle.cost.specs.Prices.{charge, FirstBand, tenths, cents}
 use Rattle.cost.specs.Bills.{bill_at, plan_bill, cycle_bill}
 use Rattle.cyclefile.specs.File.{cycle_bytes, read_cycle, write_number, Reads, bytes_after, AreBytes, Words}
@@ -92,6 +94,8 @@ pub record Demands : Type 0 where
       → Reads (read_cycle (length held) file) held count n held' count' → 0 < n → (held' ≡ held) × (count' ≡ count)
   pub refused_bytes_kept : (c : List Pair) (held : List ℕ)
       → 0 < write_number (length held) c → bytes_after c held ≡ held
+  -- nor does a normal form that is refused (document 02, Req 12)
+  pub refused_places_kept : (c held : List Pair) (n : ℕ) → normalised (length held) c ≡ Err n → places_after c held ≡ held
   -- an offer that is refused leaves the meter as it was (document 02, Req 03), whatever the meter holds
   pub refused_meter_kept : (m : Meter) (t d : ℕ) → 0 < (stepped m t d).answer.number → (stepped m t d).meter ≡ m
   -- 2. The figures are those that document 01 defines, over every stretch and every k.
@@ -201,6 +205,26 @@ pub record Demands : Type 0 where
   pub duty_28 : (table : Table) (m : ℕ) → (duty_of table m ≡ Err 28) ↔ (IsTable table × (is_open table m ≡ false))
   -- the conversion never falls, and keeps distances or lengthens them: from a duty minute to a later one it is as many calendar minutes, or more
   pub distances_kept : (table : Table) (d e : ℕ) → IsTable table → d ≤ e → calendar_minute table d + (e - d) ≤ calendar_minute table e
+  -- Are these the same cycle? (document 02, Req 12) Two cycles, with any gaps and sizes, have equal normal forms exactly when the endless run of
+  -- one, begun at some report, is that of the other.
+  pub same_cycle : (c d : List Pair) → 1 ≤ length c → 1 ≤ length d → (normal_form c ≡ normal_form d) ↔ ((k : ℕ) × (cycle_run d ≡ begun_at (cycle_run c) k))
+  -- The normal form is a cycle of as many pairs or fewer, whose run is the cycle's, begun at some report. Of all cycles of which this is said
+  -- none has fewer pairs, and none with as many comes before it, pair by pair, in the order by gap, then size.
+  pub normal_run : (c : List Pair) → 1 ≤ length c
+      → (1 ≤ length (normal_form c)) × (length (normal_form c) ≤ length c) × ((k : ℕ) × (cycle_run (normal_form c) ≡ begun_at (cycle_run c) k))
+  pub normal_least : (c d : List Pair) (k : ℕ) → 1 ≤ length c → 1 ≤ length d → cycle_run d ≡ begun_at (cycle_run c) k
+      → (length (normal_form c) ≤ length d) × (length (normal_form c) ≡ length d → in_order (normal_form c) d ≡ true)
+  -- that is an order: of two lists one is in order before the other, both ways only where they are the same, and on from list to list
+  pub order_total : (c d : List Pair) → (in_order c d ≡ true) ⊎ (in_order d c ≡ true)
+  pub order_antisymmetric : (c d : List Pair) → in_order c d ≡ true → in_order d c ≡ true → c ≡ d
+  pub order_transitive : (c d e : List Pair) → in_order c d ≡ true → in_order d e ≡ true → in_order c e ≡ true
+  -- normalising twice changes nothing
+  pub normal_twice : (c : List Pair) → 1 ≤ length c → normal_form (normal_form c) ≡ normal_form c
+  -- 12 is given exactly where there are not 1 to 512 pairs, else 20 exactly where the lent list has fewer places than the normal form has pairs,
+  -- and no other number
+  pub normal_numbers : (c : List Pair) (places n : ℕ)
+      → (normalised places c ≡ Err n)
+      ↔ (((n ≡ 12) × ¬ ((1 ≤ length c) × (length c ≤ 512))) ⊎ ((n ≡ 20) × (1 ≤ length c) × (length c ≤ 512) × (places < length (normal_form c))))
   -- a written cycle reads back as itself
   pub reads_back : (places : ℕ) (c : List Pair) → 1 ≤ length c → length c ≤ 512 → length c ≤ places → read_cycle places (cycle_bytes c) ≡ Ok c
   -- what is written of 16-bit numbers is made of bytes
@@ -235,6 +259,14 @@ pub record Demands : Type 0 where
   -- with J = 0 it is the check as it was, and what is passed for some J is passed for every smaller one
   pub on_time : (s : Spec) (c : List Pair) → late_number s 0 c ≡ check_number s c
   pub late_less : (s : Spec) (less more : ℕ) (c : List Pair) → less ≤ more → late_number s more c ≡ 0 → late_number s less c ≡ 0
+  -- Every check gives a cycle and its normal form the same number (document 02, Req 12), against every specification and with every lateness,
+  pub normal_number : (s : Spec) (lateness : ℕ) (c : List Pair) → 1 ≤ length c → length c ≤ 512
+      → (check_number s (normal_form c) ≡ check_number s c) × (late_number s lateness (normal_form c) ≡ late_number s lateness c)
+  -- against a specification's file too, whatever its bytes; and so does the loader's call of the files of both
+  pub normal_file_number : (spec : List ℕ) (lateness : ℕ) (c : List Pair) → 1 ≤ length c → length c ≤ 512
+      → (check_file_number (read_spec spec) (normal_form c) ≡ check_file_number (read_spec spec) c)
+      × (late_file_number (read_spec spec) lateness (normal_form c) ≡ late_file_number (read_spec spec) lateness c)
+      × (verdict_of spec (cycle_bytes (normal_form c)) ≡ verdict_of spec (cycle_bytes c))
   -- the endless run of every plan that the test passed obeys them
   pub test_obeys : (s : Spec) (p : Plan) (v : ℕ) → test_of s ≡ Ok (schedule_of p v) → (proper p ≡ true) × Obeys s (run p)
   -- and so does that of every even plan
