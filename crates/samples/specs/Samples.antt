@@ -1,14 +1,14 @@
 -- Document 01, "Samples": those marked ★ as one table, and one proof that the definitions give every value that it prints. The sizes of
 -- B with 15 are those of document 02, Req 02, its offers those of Req 03, and what four reports of it cost that of Req 08; what F gets is
--- that of Req 07; the way back from minutes, of Req 05, the other bills, late reports, of Req 09, and F with B = 15 are ours.
-use Rattle.std.specs.Prelude.{ℕ, ◌+◌, ◌*◌, ◌≡◌, refl, List, [], ◌∷◌, ◌++◌, Bool, true, false, ◌&&◌, eqb, Option, None, Some, Result, Ok, Err}
+-- that of Req 07; the way back from minutes, of Req 05, the other bills, late reports, of Req 09, normal forms, of Req 12, and F with B = 15 are ours.
+use Rattle.std.specs.Prelude.{ℕ, ◌+◌, ◌*◌, ◌≡◌, refl, List, [], ◌∷◌, ◌++◌, Bool, true, false, ◌&&◌, eqb, length, Option, None, Some, Result, Ok, Err}
 use Rattle.spec.specs.declared.Rate.{Rate}
 use Rattle.spec.specs.declared.Range.{Range}
 use Rattle.spec.specs.declared.Spec.{Spec}
 use Rattle.spec.specs.Limits.{rate_of, range_of, spec_number, first_number, if_none, limits, order, rate_limits, range_limits, range_order, starts_above, in_range, size_allowed, gap_allowed, top_of}
 use Rattle.spec.specs.File.{read_spec}
 use Rattle.spec.specs.Rates.{second_number, one_range_number, rates_from, both_rates, started}
-use Rattle.numbers.specs.Numbers.{ceil, all}
+use Rattle.numbers.specs.Numbers.{ceil, all, first}
 use Rattle.schedule.specs.Schedules.{sum, minute, held_from, stretch}
 use Rattle.schedule.specs.Moments.{greatest, last_report, first_least, nearest_report, reports_from, records_from}
 use Rattle.plan.specs.declared.Plan.{Plan}
@@ -25,9 +25,12 @@ use Rattle.even.specs.Even.{even_plan, plan_or10, even_plan_at, even_gap, larges
 use Rattle.answers.specs.Answers.{Answer, consistency_answer, scheduled_answer, tested_answer, even_answer, value_answer, contents_answer, bill_answer}
 use Rattle.lateness.specs.Lateness.{late_gap_allowed, late_supply, late_demand, lateness_number}
 use Rattle.pairs.specs.declared.Pair.{Pair}
+use Rattle.pairs.specs.Pairs.{flatten}
 use Rattle.cycle.specs.Cycles.{pair_gap, pair_size, cycle_run, round}
 use Rattle.cycle.specs.Check.{check_number, cycle_number, first_refusal, gaps_allowed, sizes_allowed, supply_kept, demand_met}
 use Rattle.cycle.specs.LateCheck.{late_number, late_cycle_number, late_gaps_allowed}
+use Rattle.normal.specs.Normal.{pair_of, repeats, period, row, in_order, comes_first, least_start, normal_form}
+use Rattle.normal.specs.Answers.{normalised}
 use Rattle.cost.specs.declared.Bill.{Bill}
 use Rattle.cost.specs.Prices.{price_in, charge, tenths}
 use Rattle.cost.specs.Bills.{plan_bill, cycle_bill}
@@ -62,6 +65,8 @@ pub data Claim : Type 0 where
   late_gets : (cycle : List Pair) (lateness number : ℕ) → Claim
   cycle_costs : (cycle : List Pair) (reports tenths cents : ℕ) → Claim
   cycle_not_billed : (cycle : List Pair) (reports number : ℕ) → Claim
+  normal_is : (cycle : List Pair) (places : ℕ) (normal : List Pair) → Claim
+  normal_refused : (cycle : List Pair) (places number : ℕ) → Claim
   offers_get : (offers : List Offer) → Claim
   is_read_from : (file : List ℕ) → Claim
 
@@ -170,6 +175,9 @@ claim_holds s (cycle_gets c n) = eqb (check_number s c) n
 claim_holds s (late_gets c lateness n) = eqb (late_number s lateness c) n
 claim_holds s (cycle_costs ps n t c) = bill_is (cycle_bill s ps n) t c
 claim_holds s (cycle_not_billed ps n number) = answer_is (bill_answer (cycle_bill s ps n)) number []
+claim_holds s (normal_is c places normal) =
+    answer_is (value_answer (normalised places c)) 0 (length normal ∷ []) && same (flatten (normal_form c)) (flatten normal)
+claim_holds s (normal_refused c places number) = answer_is (value_answer (normalised places c)) number []
 claim_holds s (offers_get offers) = answers_are (plain_answers s [] (offered offers)) offers
 claim_holds s (is_read_from file) = read_to (read_spec file) s
 
@@ -205,6 +213,9 @@ sample = sample_with None
 pub cycle : (gap : ℕ) → List ℕ → List Pair
 cycle gap [] = []
 cycle gap (d ∷ ds) = record { gap = gap; size = d } ∷ cycle gap ds
+
+pub two_rounds : List Pair → List Pair
+two_rounds ps = ps ++ ps
 
 pub offer : (minute size number left : ℕ) → Offer
 offer t d n left = record { report = record { minute = t; size = d }; number = n; left = left }
@@ -244,6 +255,11 @@ samples =
     ∷ cycle_gets (cycle 5 (3 ∷ 3 ∷ 2 ∷ 2 ∷ [])) 15
     ∷ cycle_not_billed (cycle 5 (3 ∷ 3 ∷ 2 ∷ 2 ∷ [])) 0 15
     ∷ cycle_gets (cycle 5 (2 ∷ 2 ∷ 2 ∷ 3 ∷ [])) 16
+    ∷ normal_is (cycle 5 (3 ∷ 2 ∷ [])) 2 (cycle 5 (2 ∷ 3 ∷ []))
+    ∷ normal_is (cycle 5 (2 ∷ 3 ∷ 2 ∷ 3 ∷ [])) 2 (cycle 5 (2 ∷ 3 ∷ []))
+    ∷ normal_is (cycle 5 (3 ∷ 2 ∷ 2 ∷ 2 ∷ [])) 4 (cycle 5 (2 ∷ 2 ∷ 2 ∷ 3 ∷ []))
+    ∷ normal_refused (cycle 5 (2 ∷ 3 ∷ 2 ∷ 3 ∷ [])) 1 20
+    ∷ normal_refused [] 0 12
     ∷ offers_get (
     offer 9 4 14 15
     ∷ offer 3 3 0 12
@@ -276,6 +292,13 @@ samples =
     ∷ even_gives 90 1 8
     ∷ cycle_gets (cycle 15 (5 ∷ 5 ∷ []) ++ cycle 5 (4 ∷ []) ++ cycle 90 (8 ∷ []) ++ cycle 60 (8 ∷ [])) 0
     ∷ cycle_gets (cycle 15 (8 ∷ []) ++ cycle 30 (4 ∷ []) ++ cycle 90 (8 ∷ [])) 13
+    -- the first cycle, and the same begun at its fourth pair and written out twice (document 02, Req 12)
+    ∷ normal_is (cycle 15 (5 ∷ 5 ∷ []) ++ cycle 5 (4 ∷ []) ++ cycle 90 (8 ∷ []) ++ cycle 60 (8 ∷ [])) 5
+    (cycle 5 (4 ∷ []) ++ cycle 90 (8 ∷ []) ++ cycle 60 (8 ∷ []) ++ cycle 15 (5 ∷ 5 ∷ []))
+    ∷ normal_is (two_rounds (cycle 90 (8 ∷ []) ++ cycle 60 (8 ∷ []) ++ cycle 15 (5 ∷ 5 ∷ []) ++ cycle 5 (4 ∷ []))) 5
+    (cycle 5 (4 ∷ []) ++ cycle 90 (8 ∷ []) ++ cycle 60 (8 ∷ []) ++ cycle 15 (5 ∷ 5 ∷ []))
+    -- and the second, begun at its second pair: by gap (15, 8) comes first, by size (30, 4) would
+    ∷ normal_is (cycle 30 (4 ∷ []) ++ cycle 90 (8 ∷ []) ++ cycle 15 (8 ∷ [])) 3 (cycle 15 (8 ∷ []) ++ cycle 30 (4 ∷ []) ++ cycle 90 (8 ∷ []))
     -- late reports: 16 is between the ranges; of the gaps 15 to 65 both ends are allowed
     ∷ late_gets (cycle 15 (4 ∷ [])) 0 0
     ∷ late_gets (cycle 15 (4 ∷ [])) 1 13
@@ -310,5 +333,5 @@ samples_hold (x ∷ xs) = claims_hold x.spec x.claims && samples_hold xs
 
 -- Every value of the table is what the definitions compute.
 pub samples_hold_lem : samples_hold samples ≡ true
-unfolding samples_hold samples sample sample_with cycle offer offered left_is answers_are claims_hold claim_holds same answer_is report_is reports_are well_formed even minute_is between_is bill_is of_schedule of_even same_rate same_range read_to spec_number first_number limits order rate_limits range_limits range_order starts_above in_range size_allowed gap_allowed top_of read_spec if_none second_number one_range_number started sum minute held_from stretch proper run kind_run well_size well_gap even_first even_size report_of if_proper between_of greatest last_report first_least nearest_report reports_from records_from consistency_of conditions_of bounds_fit_rates size_fits_budget gap_fits_demand demand_fits_duration fewest_reports_fit_budget enough_reports_for_demand supply_covers_demand where_there ceil schedule_for both_rates rates_from scheduled exists plan_for supply_figure required available least test_of test_consistent test_taken figure_passes taken first_count last_count schedule_with taken_from better_of is_better family_of even_plan plan_or10 even_plan_at even_gap largest fits supply_fits demand_fits total_of count_at pair_gap pair_size cycle_run round check_number cycle_number first_refusal gaps_allowed sizes_allowed supply_kept demand_met lateness_number late_number late_cycle_number late_gap_allowed late_gaps_allowed late_supply late_demand all price_in charge tenths plan_bill cycle_bill counted_at too_early over_budget no_place offer_number after later budget_left offer_answer plain_answers
+unfolding samples_hold samples sample sample_with cycle two_rounds offer offered left_is answers_are claims_hold claim_holds same answer_is report_is reports_are well_formed even minute_is between_is bill_is of_schedule of_even same_rate same_range read_to spec_number first_number limits order rate_limits range_limits range_order starts_above in_range size_allowed gap_allowed top_of read_spec if_none second_number one_range_number started sum minute held_from stretch proper run kind_run well_size well_gap even_first even_size report_of if_proper between_of greatest last_report first_least nearest_report reports_from records_from consistency_of conditions_of bounds_fit_rates size_fits_budget gap_fits_demand demand_fits_duration fewest_reports_fit_budget enough_reports_for_demand supply_covers_demand where_there ceil schedule_for both_rates rates_from scheduled exists plan_for supply_figure required available least test_of test_consistent test_taken figure_passes taken first_count last_count schedule_with taken_from better_of is_better family_of even_plan plan_or10 even_plan_at even_gap largest fits supply_fits demand_fits total_of count_at pair_gap pair_size cycle_run round check_number cycle_number first_refusal gaps_allowed sizes_allowed supply_kept demand_met lateness_number late_number late_cycle_number late_gap_allowed late_gaps_allowed late_supply late_demand all price_in charge tenths plan_bill cycle_bill first pair_of repeats period row in_order comes_first least_start normal_form normalised counted_at too_early over_budget no_place offer_number after later budget_left offer_answer plain_answers
 samples_hold_lem = refl

@@ -6,6 +6,7 @@ use consistency::Unfit;
 use cost::Bill;
 use families::{Family, Scheduled};
 use meter::Meter;
+use pairs::Pair;
 use plan::moments::Contents;
 use plan::{Kind, Plan, Report};
 use spec::refusal::{Refusal, answer_number};
@@ -361,6 +362,41 @@ fn late_reports(rt: &impl Print) -> io::Result<()> {
     late_cycle(rt, sample((1, 9), (1, 9), (9, 1), (1, 3)), 4, 9, 3)
 }
 
+fn pair(gap: u16, size: u16) -> Pair {
+    Pair { gap, size }
+}
+
+// The pairs of a cycle's normal form, where so many places are lent, of at most eight.
+fn normal_form(rt: &impl Print, cycle: &[Pair], places: usize) -> io::Result<()> {
+    print!(rt; "  normal form")?;
+    let mut lent = [pair(0, 0); 8];
+    match normal::normal_form(cycle, &mut lent[..places.min(8)]) {
+        Ok(count) => {
+            for x in lent.iter().take(count as usize) {
+                print!(rt; " {} {}", x.gap, x.size)?;
+            }
+            println!(rt)
+        }
+        Err(refusal) => refused(rt, refusal),
+    }
+}
+
+// Cycles of B with 15 and of two shifts; of each one is begun at another pair and written out twice. Too few places, and no pair. Last a cycle
+// that would begin elsewhere by size.
+fn normal_forms(rt: &impl Print) -> io::Result<()> {
+    println!(rt; "Normal forms")?;
+    let (two, three) = (pair(5, 2), pair(5, 3));
+    normal_form(rt, &[three, two], 2)?;
+    normal_form(rt, &[two, three, two, three], 2)?;
+    normal_form(rt, &[three, two, two, two], 4)?;
+    normal_form(rt, &[two, three, two, three], 1)?;
+    normal_form(rt, &[], 0)?;
+    let [a, b, c, d] = [pair(15, 5), pair(5, 4), pair(90, 8), pair(60, 8)];
+    normal_form(rt, &[a, a, b, c, d], 5)?;
+    normal_form(rt, &[c, d, a, a, b, c, d, a, a, b], 5)?;
+    normal_form(rt, &[pair(30, 4), c, pair(15, 8)], 3)
+}
+
 fn main(rt: HostRuntime) -> io::Result<()> {
     sample_a(&rt)?;
     sample_a_with_28(&rt)?;
@@ -370,5 +406,6 @@ fn main(rt: HostRuntime) -> io::Result<()> {
     samples_e_and_f(&rt)?;
     two_shifts(&rt)?;
     ranges_that_touch(&rt)?;
-    late_reports(&rt)
+    late_reports(&rt)?;
+    normal_forms(&rt)
 }
