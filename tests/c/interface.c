@@ -1,5 +1,5 @@
 /*
- * The twenty-one calls from C, through include/maxeltu.h: the samples, every
+ * The twenty-two calls from C, through include/maxeltu.h: the samples, every
  * refusal of every call, and the places that a call must leave as they were.
  *
  * Prints a line for each group, whose name starts with the argument if there is
@@ -870,6 +870,193 @@ static void longest_cycle(void)
     end();
 }
 
+/* ---- normal forms ---- */
+
+/* The normal form comes to the first pairs, their count to the first place. */
+static uint32_t normal_form(const struct maxeltu_pair *cycle, size_t count, size_t places_lent)
+{
+    fill_places();
+    fill_pairs();
+    return maxeltu_normal_form(cycle, count, pairs, places_lent, &places[0]);
+}
+
+static bool normal_refused(uint32_t refusal, const struct maxeltu_pair *cycle, size_t count, size_t places_lent)
+{
+    return normal_form(cycle, count, places_lent) == refusal && untouched() && pairs_untouched_from(0);
+}
+
+/* In as many places as it has pairs, in one more, and in all of them; in one fewer, and in none, it is refused. */
+static bool normal_is(const struct maxeltu_pair *cycle, size_t count, const struct maxeltu_pair *form, size_t length)
+{
+    const size_t enough[] = { length, length + 1, sizeof pairs / sizeof *pairs };
+    bool same = normal_refused(MAXELTU_NO_ROOM, cycle, count, length - 1) && normal_refused(MAXELTU_NO_ROOM, cycle, count, 0);
+    for (size_t i = 0; i < sizeof enough / sizeof *enough; i++) {
+        same &= normal_form(cycle, count, enough[i]) == MAXELTU_OK && hold(1, (unsigned)length);
+        same &= memcmp(pairs, form, length * sizeof *form) == 0 && pairs_untouched_from(length);
+    }
+    return same;
+}
+
+struct cycle {
+    size_t count;
+    struct maxeltu_pair pairs[MAXELTU_MAX_PAIRS + 1];
+};
+
+/* So many pairs: the list from this one of its pairs on, again and again. */
+static struct cycle repeated(const struct maxeltu_pair *list, size_t length, size_t start, size_t count)
+{
+    struct cycle cycle = { .count = count };
+    for (size_t i = 0; i < count; i++)
+        cycle.pairs[i] = list[(start + i) % length];
+    return cycle;
+}
+
+/* The cycle of a file. */
+static struct cycle cycle_in(const uint8_t *file, size_t length)
+{
+    struct cycle cycle = { 0 };
+    uint32_t count = 0;
+    CHECK(maxeltu_read_cycle(file, length, cycle.pairs, MAXELTU_MAX_PAIRS, &count) == MAXELTU_OK);
+    cycle.count = count;
+    return cycle;
+}
+
+/* Whether two cycles have one normal form. */
+static bool same_cycle(const struct cycle *one, const struct cycle *other)
+{
+    struct cycle form = { 0 }, others = { 0 };
+    uint32_t count = 0, others_count = 0;
+    CHECK(maxeltu_normal_form(one->pairs, one->count, form.pairs, MAXELTU_MAX_PAIRS, &count) == MAXELTU_OK);
+    CHECK(maxeltu_normal_form(other->pairs, other->count, others.pairs, MAXELTU_MAX_PAIRS, &others_count) == MAXELTU_OK);
+    return count == others_count && memcmp(form.pairs, others.pairs, count * sizeof *form.pairs) == 0;
+}
+
+/* The files of samples/: shift-turned.cycle is shift-good.cycle from its fourth pair on, twice. */
+static void samples_of_normal_forms(void)
+{
+    begin("normal forms: samples");
+    static const struct maxeltu_pair form[] = { { 5, 4 }, { 90, 8 }, { 60, 8 }, { 15, 5 }, { 15, 5 } };
+    struct cycle good = cycle_in(BYTES(0, 5, 3, 0, 15, 0, 5, 0, 3, 0, 5, 0, 4, 3, 0, 90, 0, 8, 1, 0, 60));
+    struct cycle turned = cycle_in(BYTES(0, 10, 3, 0, 90, 0, 8, 1, 0, 60, 3, 0, 15, 0, 5, 0, 3, 0, 5, 0, 4,
+                                         3, 0, 90, 0, 8, 1, 0, 60, 3, 0, 15, 0, 5, 0, 3, 0, 5, 0, 4));
+    struct cycle gap_between = cycle_in(BYTES(0, 3, 3, 0, 15, 0, 8, 3, 0, 30, 0, 4, 3, 0, 90, 0, 8));
+    struct cycle late_shift = cycle_in(BYTES(0, 1, 3, 0, 15, 0, 4));
+    CHECK(good.count == 5 && turned.count == 10);
+    CHECK(normal_is(good.pairs, good.count, form, 5) && normal_is(turned.pairs, turned.count, form, 5));
+    CHECK(normal_is(form, 5, form, 5));
+    CHECK(normal_is(gap_between.pairs, 3, gap_between.pairs, 3) && normal_is(late_shift.pairs, 1, late_shift.pairs, 1));
+    CHECK(same_cycle(&good, &turned) && same_cycle(&turned, &good) && same_cycle(&good, &good));
+    CHECK(!same_cycle(&good, &gap_between) && !same_cycle(&turned, &late_shift) && !same_cycle(&gap_between, &late_shift));
+    /* Each number that a check gives, with some lateness too. */
+    struct {
+        struct spec_file file;
+        uint32_t number;
+    } specs[] = {
+        { two_shifts(60, 90), MAXELTU_OK },
+        { two_shifts(16, 90), MAXELTU_OK },
+        { spec_of(15, 8, 1, 10, 1, 99, 22, 60, 8, 90), MAXELTU_OK },
+        { two_shifts(61, 90), MAXELTU_GAP },
+        { spec_of(47, 10, 5, 10, 5, 15, 22, 60, 8, 90, 60, 90), MAXELTU_SIZE },
+        { spec_of(47, 10, 1, 10, 5, 15, 21, 60, 8, 90, 60, 90), MAXELTU_TOO_FULL },
+        { spec_of(47, 10, 1, 10, 5, 15, 22, 60, 9, 90, 60, 90), MAXELTU_TOO_THIN },
+    };
+    static const uint32_t latenesses[] = { 0, 1, 4, 5, 1440, 1441 };
+    for (size_t i = 0; i < sizeof specs / sizeof *specs; i++) {
+        CHECK(check_pairs(specs[i].file, 10, turned.pairs) == specs[i].number && check_pairs(specs[i].file, 5, form) == specs[i].number);
+        for (size_t l = 0; l < sizeof latenesses / sizeof *latenesses; l++)
+            CHECK(maxeltu_check_late(SPEC(specs[i].file), turned.pairs, 10, latenesses[l])
+                  == maxeltu_check_late(SPEC(specs[i].file), form, 5, latenesses[l]));
+    }
+    end();
+}
+
+/* Normal forms. A list ends before the first pair that is 0, 0. */
+static const struct maxeltu_pair lists[][8] = {
+    { { 1, 9 }, { 2, 1 } }, { { 1, 9 }, { 2, 1 }, { 2, 2 } },             /* a gap against a size, and two */
+    { { 5, 2 }, { 5, 3 } }, { { 5, 0 }, { 5, 65535 } },                   /* a size where the gaps are equal */
+    { { 0, 65535 }, { 1, 0 } }, { { 0, 65535 }, { 1, 0 }, { 1, 0 } },     /* gap 0, whatever the size */
+    { { 0, 5 }, { 65535, 5 } }, { { 65534, 65535 }, { 65535, 0 } },       /* the largest gap */
+    { { 32767, 5 }, { 32768, 5 } }, { { 5, 32767 }, { 5, 32768 } },       /* no number has a sign */
+    { { 255, 5 }, { 256, 5 }, { 511, 4 } }, { { 5, 255 }, { 5, 256 } },   /* nor does the low byte come first */
+    { { 1, 1 }, { 2, 9 }, { 1, 1 }, { 3, 1 } },                           /* the second pair decides, by gap */
+    { { 1, 1 }, { 2, 1 }, { 1, 1 }, { 2, 2 } },                           /* and by size */
+    { { 1, 1 }, { 3, 1 }, { 1, 2 }, { 2, 1 } },                           /* the first size comes before the second gap */
+    { { 7, 3 }, { 7, 4 }, { 7, 3 }, { 7, 4 }, { 7, 3 }, { 7, 4 }, { 7, 3 }, { 7, 5 } },
+    { { 7, 3 }, { 7, 3 }, { 7, 3 }, { 7, 4 }, { 7, 3 }, { 7, 3 }, { 7, 4 } },
+};
+
+/* In every turn, written out once, twice, and as often as there is room. */
+static void turns_of_normal_forms(void)
+{
+    begin("normal forms: the turn that comes first");
+    for (size_t i = 0; i < sizeof lists / sizeof *lists; i++) {
+        size_t length = 0;
+        while (length < 8 && (lists[i][length].gap || lists[i][length].size))
+            length++;
+        const size_t times[] = { 1, 2, MAXELTU_MAX_PAIRS / length };
+        for (size_t start = 0; start < length; start++)
+            for (size_t n = 0; n < sizeof times / sizeof *times; n++) {
+                struct cycle cycle = repeated(lists[i], length, start, times[n] * length);
+                CHECK(normal_is(cycle.pairs, cycle.count, lists[i], length));
+            }
+    }
+    end();
+}
+
+/* A list of so many growing pairs, repeated up to this count: a divisor, or the count itself. */
+static bool repeats_by(size_t length, size_t count)
+{
+    struct cycle list = { 0 };
+    for (uint16_t i = 0; i < length; i++)
+        list.pairs[i] = (struct maxeltu_pair){ .gap = 5, .size = i };
+    struct cycle cycle = repeated(list.pairs, length, length / 2, count);
+    return normal_is(cycle.pairs, count, list.pairs, length);
+}
+
+static void long_normal_forms(void)
+{
+    begin("normal forms: up to 512 pairs");
+    static const struct maxeltu_pair a = { 7, 3 }, b = { 7, 4 };
+    for (size_t count = 1; count <= MAXELTU_MAX_PAIRS; count++) {
+        CHECK(repeats_by(1, count) && repeats_by(count, count));
+        CHECK(count % 2 || repeats_by(2, count));
+    }
+    CHECK(repeats_by(7, 511) && repeats_by(73, 511) && repeats_by(256, 512) && repeats_by(240, 480) && repeats_by(160, 480));
+    struct cycle one = repeated((const struct maxeltu_pair[]){ a, b }, 2, 0, MAXELTU_MAX_PAIRS), other = one;
+    CHECK(normal_is(one.pairs, one.count, one.pairs, 2));
+    /* The last pair another: the cycle does not repeat, though all before it does. */
+    other.pairs[MAXELTU_MAX_PAIRS - 1].size = 5;
+    CHECK(normal_is(other.pairs, other.count, other.pairs, MAXELTU_MAX_PAIRS) && !same_cycle(&one, &other));
+    /* Cut off in a repetition: begun at the last pair, as large as the first. */
+    one.count = MAXELTU_MAX_PAIRS - 1;
+    other = repeated(one.pairs, one.count, one.count - 1, one.count);
+    CHECK(normal_is(one.pairs, one.count, other.pairs, one.count) && same_cycle(&one, &other));
+    end();
+}
+
+static void refusals_of_normal_forms(void)
+{
+    begin("normal forms: refusals 12 and 20");
+    struct maxeltu_pair a = { 7, 3 }, b = { 7, 4 };
+    struct cycle equal = repeated(&a, 1, 0, MAXELTU_MAX_PAIRS + 1);
+    struct cycle two = repeated((const struct maxeltu_pair[]){ b, a }, 2, 0, MAXELTU_MAX_PAIRS);
+    static const size_t wrong_counts[] = { 0, MAXELTU_MAX_PAIRS + 1 };
+    for (size_t i = 0; i < sizeof wrong_counts / sizeof *wrong_counts; i++)
+        for (size_t places_lent = 0; places_lent <= sizeof pairs / sizeof *pairs; places_lent++)
+            CHECK(normal_refused(MAXELTU_COUNT, equal.pairs, wrong_counts[i], places_lent));
+    /* No pair is read: there is none behind these. */
+    CHECK(normal_refused(MAXELTU_COUNT, &a, 65537, 1) && normal_refused(MAXELTU_COUNT, &a, SIZE_MAX, 0));
+    /* The places are held against the normal form, not against the cycle. */
+    CHECK(normal_refused(MAXELTU_NO_ROOM, equal.pairs, MAXELTU_MAX_PAIRS, 0));
+    CHECK(normal_form(equal.pairs, MAXELTU_MAX_PAIRS, 1) == MAXELTU_OK && hold(1, 1) && pairs_untouched_from(1));
+    CHECK(normal_refused(MAXELTU_NO_ROOM, two.pairs, MAXELTU_MAX_PAIRS, 1));
+    for (size_t places_lent = 2; places_lent <= sizeof pairs / sizeof *pairs; places_lent++) {
+        CHECK(normal_form(two.pairs, MAXELTU_MAX_PAIRS, places_lent) == MAXELTU_OK && hold(1, 2) && pairs_untouched_from(2));
+        CHECK(pairs[0].gap == 7 && pairs[0].size == 3 && pairs[1].gap == 7 && pairs[1].size == 4);
+    }
+    end();
+}
+
 /* ---- meters ---- */
 
 /* A meter for this specification, made over bytes that are not 0. */
@@ -1292,6 +1479,8 @@ static void null_for_empty(void)
     CHECK(maxeltu_check_cycle(SPEC(b15), NULL, 0) == MAXELTU_COUNT);
     CHECK(maxeltu_check_late(SPEC(b15), NULL, 0, 10) == MAXELTU_COUNT);
     CHECK(cycle_cost(b15, NULL, 0, 4) == MAXELTU_COUNT && bill_untouched());
+    CHECK(maxeltu_normal_form(NULL, 0, NULL, 0, &places[0]) == MAXELTU_COUNT);
+    CHECK(maxeltu_normal_form(&(struct maxeltu_pair){ .gap = 5, .size = 2 }, 1, NULL, 0, &places[0]) == MAXELTU_NO_ROOM);
     CHECK(maxeltu_read_cycle(NULL, 0, NULL, 0, &places[0]) == MAXELTU_FILE_CUT);
     CHECK(maxeltu_read_cycle(BYTES(0, 1, 3, 0, 5, 0, 2), NULL, 0, &places[0]) == MAXELTU_NO_ROOM);
     CHECK(maxeltu_write_cycle(NULL, 0, file, sizeof file, &places[0]) == MAXELTU_COUNT);
@@ -1325,6 +1514,10 @@ int main(int argc, char **argv)
     reading_cycles();
     writing_cycles();
     longest_cycle();
+    samples_of_normal_forms();
+    turns_of_normal_forms();
+    long_normal_forms();
+    refusals_of_normal_forms();
     layout_of_a_meter();
     meter_of_two_ranges();
     sample_of_a_meter();

@@ -42,6 +42,15 @@ pub fn expected<const N: usize, P: TryFrom<u64>>(result: Result<[u64; N], Refusa
     }
 }
 
+/// The same of a list of pairs, which it writes to the first places, and of their count.
+pub fn listed(made: Result<Vec<Pair>, Refusal>, before: &[Pair], count: u32) -> (Outcome<1>, Vec<Pair>) {
+    let mut held = before.to_vec();
+    if let Ok(pairs) = &made {
+        held[..pairs.len()].copy_from_slice(pairs);
+    }
+    (expected(made.map(|pairs| [pairs.len() as u64]), [count]), held)
+}
+
 fn verdict_case(random: &mut Random, library: &mut Library) -> Verdict {
     let (spec, pairs) = generate::spec_and_cycle(random);
     let spec_file = if random.once_in(30) { generate::spec_file(random) } else { spec::write(&spec) };
@@ -342,7 +351,7 @@ fn has_gaps_of_both_ranges(spec: &Spec, pairs: &[Pair]) -> bool {
     has_gap_of(spec.gap) && spec.second.is_some_and(has_gap_of)
 }
 
-fn some_pair(random: &mut Random) -> Pair {
+pub fn some_pair(random: &mut Random) -> Pair {
     Pair { gap: random.next() as u16, size: random.next() as u16 }
 }
 
@@ -360,15 +369,10 @@ fn read_case(random: &mut Random, library: &mut Library) -> Verdict {
         _ => 512 + random.below(4),
     };
     let before: Vec<Pair> = (0..places).map(|_| some_pair(random)).collect();
-    let held = random.places::<1>();
-    let made = file::read(&file, before.len());
-    let mut wanted_pairs = before.clone();
-    if let Ok(pairs) = &made {
-        wanted_pairs[..pairs.len()].copy_from_slice(pairs);
-    }
-    let wanted = expected(made.map(|pairs| [pairs.len() as u64]), held);
-    let got = library.read_cycle(&file, &before, held[0]);
-    same(wanted.answer, got, (wanted, wanted_pairs), || format!("{} places {places}", hex(&file)))
+    let [held] = random.places();
+    let wanted = listed(file::read(&file, before.len()), &before, held);
+    let got = library.read_cycle(&file, &before, held);
+    same(wanted.0.answer, got, wanted, || format!("{} places {places}", hex(&file)))
 }
 
 /// A file that is read gets 18 wherever it is cut off, and 21 with bytes behind it; one that is refused for something else than

@@ -1,17 +1,18 @@
 //! Checks whose answers are written out. Each is made twice: of the library, and of the reference.
 
-use crate::calls::{consistency_outcome, expected};
+use crate::calls::{consistency_outcome, expected, listed};
 use crate::costs::billed;
 use crate::duty;
 use crate::group::Runner;
 use crate::late;
 use crate::library::{Billed, Library, Outcome};
+use crate::normal::{are_one_run, have_one_form};
 use crate::ring::{Meter, BYTES};
 use reference::cost::{self, Cost};
 use reference::duty::Week;
 use reference::feasibility::{self, Failure};
 use reference::meter::{Machine, Report};
-use reference::{cycle, even, file, spec, verdict, Kind, Pair, Plan, Spec};
+use reference::{cycle, even, file, normal, spec, verdict, Kind, Pair, Plan, Spec};
 use std::fmt::Debug;
 use std::path::{Path, PathBuf};
 
@@ -42,7 +43,7 @@ pub fn with_second(spec: &Spec, second: Numbers) -> Spec {
 pub const HELD: u32 = 0xA5A5_A5A5;
 pub const HELD_BILL: [u64; 2] = [0xA5A5_A5A5_5A5A_5A5A, 0x5A5A_5A5A_A5A5_A5A5];
 pub const HELD_MINUTE: u64 = 0xA5A5_A5A5_A5A5_A5A5;
-const HELD_PAIR: Pair = Pair { gap: 0xA5A5, size: 0xA5A5 };
+pub const HELD_PAIR: Pair = Pair { gap: 0xA5A5, size: 0xA5A5 };
 const HELD_BYTE: u8 = 0xA5;
 
 /// An offer to a meter, its number, and the budget left after it, where there is a supply rate: minute, size, number, left.
@@ -326,15 +327,48 @@ impl Checks {
     pub fn read(&mut self, name: &str, file: &[u8], places: usize, wanted: Result<&[(u16, u16)], u32>) {
         let before = vec![HELD_PAIR; places];
         let got = self.library.read_cycle(file, &before, HELD);
-        let outcome = |pairs: Result<Vec<Pair>, u32>| {
-            let mut list = before.clone();
-            if let Ok(pairs) = &pairs {
-                list[..pairs.len()].copy_from_slice(pairs);
-            }
-            (expected(pairs.map(|pairs| [pairs.len() as u64]), [HELD]), list)
-        };
-        let reference = outcome(file::read(file, places));
-        self.both(&format!("{name}, read into {places} places"), got, reference, outcome(wanted.map(pairs_of)));
+        let reference = listed(file::read(file, places), &before, HELD);
+        let wanted = listed(wanted.map(pairs_of), &before, HELD);
+        self.both(&format!("{name}, read into {places} places"), got, reference, wanted);
+    }
+
+    /// The normal form of a cycle, in so many places; or the refusal. Other places stay as they are, and what is refused rightly is refused
+    /// again where nothing can be written.
+    pub fn normal(&mut self, name: &str, pairs: &[(u16, u16)], places: usize, wanted: Result<&[(u16, u16)], u32>) {
+        let (pairs, before) = (pairs_of(pairs), vec![HELD_PAIR; places]);
+        let text = format!("{name}, normal form in {places} places");
+        let got = self.library.normal_form(&pairs, &before, HELD);
+        let reference = listed(normal::form(&pairs, places), &before, HELD);
+        let is_refused = wanted.is_err();
+        let wanted = listed(wanted.map(pairs_of), &before, HELD);
+        self.both(&text, &got, &reference, &wanted);
+        if is_refused && got == wanted {
+            let again = self.library.refused_normal_form(&pairs, &before);
+            self.holds(format!("library, {text}, again: {again}"), again == wanted.0.answer);
+        }
+    }
+
+    /// A cycle of so many pairs, of which none can be read, is refused.
+    pub fn normal_out_of_reach(&mut self, count: usize) {
+        for places in [0, 1, 512] {
+            let got = self.library.normal_form_out_of_reach(count, &vec![HELD_PAIR; places]);
+            self.holds(format!("library, {count} pairs, normal form in {places} places: {got}, not 12"), got == 12);
+        }
+    }
+
+    /// The normal form of a cycle, in so many places that most of them cannot be touched.
+    pub fn normal_in_many_places(&mut self, name: &str, pairs: &[(u16, u16)], places: usize, wanted: &[(u16, u16)]) {
+        let before = [HELD_PAIR; 1_024];
+        let got = self.library.normal_form_in_many_places(&pairs_of(pairs), &before, places, HELD);
+        let wanted = listed(Ok(pairs_of(wanted)), &before, HELD);
+        self.holds(format!("library, {name}, normal form in {places} places"), got == wanted);
+    }
+
+    /// Whether two cycles are one run: where they are, and only there, they have one normal form.
+    pub fn one_run(&mut self, name: &str, one: &[(u16, u16)], other: &[(u16, u16)], wanted: bool) {
+        let (one, other) = (pairs_of(one), pairs_of(other));
+        let got = have_one_form(&one, &other, &mut self.library);
+        self.both(&format!("{name}, one run"), got, are_one_run(&one, &other), wanted);
     }
 
     /// The file of a cycle, written into so many bytes; or the refusal. Other bytes stay as they are.

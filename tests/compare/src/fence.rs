@@ -90,3 +90,18 @@ pub fn out_of_reach<T, R>(items: usize, call: impl FnOnce(*const T) -> R) -> R {
         result
     }
 }
+
+/// The same, but the first items, which hold these, can be read and written, and come back as the call leaves them.
+pub fn first_in_reach<T: Copy, R>(first: &[T], items: usize, call: impl FnOnce(*mut T) -> R) -> (R, Vec<T>) {
+    assert_eq!(std::mem::size_of_val(first), PAGE, "items that fill a page");
+    out_of_reach(items, |at: *const T| {
+        let at = at as *mut T;
+        // SAFETY: the first page of memory that no one else has.
+        unsafe {
+            assert_eq!(mprotect(at as *mut u8, PAGE, READ_WRITE), 0);
+            at.copy_from_nonoverlapping(first.as_ptr(), first.len());
+            let result = call(at);
+            (result, std::slice::from_raw_parts(at, first.len()).to_vec())
+        }
+    })
+}

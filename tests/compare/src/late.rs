@@ -153,7 +153,7 @@ fn make_room(random: &mut Random, spec: &mut Spec, pairs: &[Pair], lateness: u64
 
 /// A specification, a cycle and a lateness. What delays make of the gaps is just in the ranges, or just not, and the rates are at what
 /// the cycle then holds, or one off.
-fn some_input(random: &mut Random, scale: Scale) -> (Spec, Vec<Pair>, u64) {
+pub fn some_input(random: &mut Random, scale: Scale) -> (Spec, Vec<Pair>, u64) {
     let mut spec = generate::near_spec(random, scale);
     let count = generate::count(random);
     let mut pairs = generate::cycle_in_range(random, &spec, count);

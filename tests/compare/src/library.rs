@@ -1,7 +1,7 @@
-//! The twenty-one calls of include/maxeltu.h, each wrapped so that its answer can be compared whole: every place that it was lent
+//! The twenty-two calls of include/maxeltu.h, each wrapped so that its answer can be compared whole: every place that it was lent
 //! is handed back with what it holds afterwards, and what it should only have read is looked at again.
 
-use crate::fence::{out_of_reach, Fence};
+use crate::fence::{first_in_reach, out_of_reach, Fence};
 use crate::ring::Meter;
 use reference::Pair;
 
@@ -21,6 +21,7 @@ extern "C" {
     fn maxeltu_check_cycle(spec: *const u8, spec_len: usize, pairs: *const Pair, count: usize) -> u32;
     fn maxeltu_check_late(spec: *const u8, spec_len: usize, pairs: *const Pair, count: usize, lateness: u32) -> u32;
     fn maxeltu_cycle_cost(spec: *const u8, spec_len: usize, pairs: *const Pair, count: usize, reports: u32, tenths: *mut u64, cents: *mut u64) -> u32;
+    fn maxeltu_normal_form(pairs: *const Pair, count: usize, normal: *mut Pair, places: usize, normal_count: *mut u32) -> u32;
     fn maxeltu_read_cycle(file: *const u8, file_len: usize, pairs: *mut Pair, places: usize, count: *mut u32) -> u32;
     fn maxeltu_write_cycle(pairs: *const Pair, count: usize, file: *mut u8, room: usize, written: *mut u32) -> u32;
     fn maxeltu_make_meter(spec: *const u8, spec_len: usize, meter: *mut Meter) -> u32;
@@ -45,6 +46,7 @@ pub struct Library {
     spec: Fence<u8>,
     file: Fence<u8>,
     pairs: Fence<Pair>,
+    normal: Fence<Pair>,
     number: Fence<u32>,
     records: Fence<u64>,
     bill: Bill,
@@ -108,6 +110,7 @@ impl Library {
             spec: Fence::new(PAGES),
             file: Fence::new(PAGES),
             pairs: Fence::new(PAGES),
+            normal: Fence::new(PAGES),
             number: Fence::new(1),
             records: Fence::new(1),
             bill: Bill { tenths: Fence::new(1), cents: Fence::new(1) },
@@ -252,6 +255,50 @@ impl Library {
         lend_cycle(list, pairs, |list| {
             bill.sealed(|tenths, cents| unsafe { maxeltu_cycle_cost(at, spec.len(), list, count, reports, tenths, cents) })
         })
+    }
+
+    /// The places hold `before`; they come back as the call leaves them, beside the count.
+    pub fn normal_form(&mut self, pairs: &[Pair], before: &[Pair], count: u32) -> (Outcome<1>, Vec<Pair>) {
+        let (form, number) = (self.normal.lend(before), self.number.lend(&[count]));
+        let answer = lend_cycle(&mut self.pairs, pairs, |list| unsafe {
+            maxeltu_normal_form(list, pairs.len(), form, before.len(), number)
+        });
+        (Outcome { answer, places: [self.number.held(1)[0]] }, self.normal.held(before.len()).to_vec())
+    }
+
+    /// A normal form that is refused: so many places, and that of the count, lie where nothing can be written.
+    pub fn refused_normal_form(&mut self, pairs: &[Pair], before: &[Pair]) -> u32 {
+        let Library { pairs: list, normal, number, .. } = self;
+        lend_cycle(list, pairs, |list| {
+            normal.sealed(before, |form| {
+                number.sealed(&[0], |number| unsafe { maxeltu_normal_form(list, pairs.len(), form, before.len(), number) })
+            })
+        })
+    }
+
+    /// The answer for a cycle of so many pairs, of which none can be read.
+    pub fn normal_form_out_of_reach(&mut self, count: usize, before: &[Pair]) -> u32 {
+        let Library { normal, number, .. } = self;
+        out_of_reach(count, |list| {
+            normal.sealed(before, |form| {
+                number.sealed(&[0], |number| unsafe { maxeltu_normal_form(list, count, form, before.len(), number) })
+            })
+        })
+    }
+
+    /// The same as `normal_form`, with so many places that only the first of them, which hold `before`, can be touched.
+    pub fn normal_form_in_many_places(
+        &mut self,
+        pairs: &[Pair],
+        before: &[Pair],
+        places: usize,
+        count: u32,
+    ) -> (Outcome<1>, Vec<Pair>) {
+        let number = self.number.lend(&[count]);
+        let (answer, held) = first_in_reach(before, places, |form| {
+            lend_cycle(&mut self.pairs, pairs, |list| unsafe { maxeltu_normal_form(list, pairs.len(), form, places, number) })
+        });
+        (Outcome { answer, places: [self.number.held(1)[0]] }, held)
     }
 
     /// The places hold `before`; they come back as the call leaves them, beside the count.

@@ -25,6 +25,8 @@ mod library;
 mod limits;
 mod meters;
 mod moments;
+mod normal;
+mod normal_edges;
 mod offers;
 mod plans;
 mod program;
@@ -58,6 +60,7 @@ fn main() {
             rounds::all(&mut runner);
             late_edges::all(&mut runner);
             duty_edges::all(&mut runner);
+            normal_edges::all(&mut runner);
             calls::reference_itself(&mut runner);
             exhaustive::all(&mut runner);
             calls::all(&mut runner);
@@ -67,6 +70,7 @@ fn main() {
             late::all(&mut runner);
             duty::all(&mut runner);
             duty_plans::all(&mut runner);
+            normal::all(&mut runner);
             meters::all(&mut runner);
         }
         ["evenplan", program] => program::all(&mut runner, program.as_ref()),

@@ -1,7 +1,7 @@
 //! The samples of document 01, starred or not, through the library and through the reference, and the files in samples/. The sizes of
 //! even plans are those of document 02, Req 02, the meter is that of Req 03, the van of two shifts that of Req 06, the prices are those
-//! of Req 08, the reports that arrive late those of Req 09, the first report that may be thinner that of Req 10, and the week table is that of
-//! Req 11.
+//! of Req 08, the reports that arrive late those of Req 09, the first report that may be thinner that of Req 10, the week table is that of
+//! Req 11, and the normal forms are those of Req 12.
 
 use crate::checks::{self, both_rates, demand_only, pairs_of, with_second, Checks, Offer};
 use crate::group::Runner;
@@ -31,8 +31,10 @@ pub fn thin_start() -> Spec {
     demand_only((1, 3), (5, 5), (3, 7))
 }
 
-/// The pairs of samples/shift-good.cycle and samples/shift-between.cycle.
+/// The pairs of samples/shift-good.cycle, of samples/shift-turned.cycle, begun at the fourth of them and twice, and of
+/// samples/shift-between.cycle.
 const SHIFT_GOOD: [(u16, u16); 5] = [(15, 5), (15, 5), (5, 4), (90, 8), (60, 8)];
+const SHIFT_TURNED: [(u16, u16); 10] = [(90, 8), (60, 8), (15, 5), (15, 5), (5, 4), (90, 8), (60, 8), (15, 5), (15, 5), (5, 4)];
 const SHIFT_BETWEEN: [(u16, u16); 3] = [(15, 8), (30, 4), (90, 8)];
 
 /// The first reports of a plan, by minute and size.
@@ -56,6 +58,7 @@ pub fn all(runner: &mut Runner) {
     checks::group(runner, "samples of cycles with late reports", late);
     checks::group(runner, "samples of meters", meters);
     checks::group(runner, "sample of a week table", duty_hours);
+    checks::group(runner, "samples of cycles, their normal forms", normal_forms);
 }
 
 /// Samples A and B with 15, by the reports that document 01 names and the sizes of document 02, Req 02.
@@ -210,6 +213,41 @@ fn duty_hours(checks: &mut Checks) {
     checks.week("samples/working.week", &table, &open, &closed);
 }
 
+/// The cycles in samples/, each with its normal form: two of them are one run, and no others.
+fn normal_forms(checks: &mut Checks) {
+    let shift: [(u16, u16); 5] = [(5, 4), (90, 8), (60, 8), (15, 5), (15, 5)];
+    let rows: [(&str, &[(u16, u16)]); 13] = [
+        ("shift-good.cycle", &shift),
+        ("shift-turned.cycle", &shift),
+        ("shift-between.cycle", &SHIFT_BETWEEN),
+        ("a-good.cycle", &[(52, 6), (53, 6), (53, 5)]),
+        ("b15-good.cycle", &[(5, 2), (5, 3)]),
+        ("b15-full.cycle", &[(5, 2), (5, 2), (5, 3), (5, 3)]),
+        ("b15-thin.cycle", &[(5, 2), (5, 2), (5, 2), (5, 3)]),
+        ("b15-gap.cycle", &[(5, 3), (6, 2)]),
+        ("b15-size.cycle", &[(5, 3), (5, 4)]),
+        ("late-good.cycle", &[(4, 2)]),
+        ("late-full.cycle", &[(3, 2)]),
+        ("late-thin.cycle", &[(4, 1)]),
+        ("late-shift.cycle", &[(15, 4)]),
+    ];
+    for (name, form) in rows {
+        let pairs = pairs_in(name);
+        for places in [form.len(), 512] {
+            checks.normal(name, &pairs, places, Ok(form));
+        }
+        for (other, others) in rows {
+            checks.one_run(&format!("{name} and {other}"), &pairs, &pairs_in(other), form == others);
+        }
+    }
+}
+
+/// The pairs of a cycle file in samples/.
+fn pairs_in(name: &str) -> Vec<(u16, u16)> {
+    let file = std::fs::read(checks::sample(name)).expect(name);
+    file::read(&file, 512).expect(name).iter().map(|pair| (pair.gap, pair.size)).collect()
+}
+
 /// The offers of a file in samples/: on each line minute, size, number and budget left.
 fn offers_of(name: &str) -> Vec<Offer> {
     fours_of(name).into_iter().map(|[minute, size, number, left]| (minute, size, number as u32, Some(left))).collect()
@@ -316,7 +354,9 @@ fn two_shifts(checks: &mut Checks) {
     checks.even("two shifts", &shift, Ok([90, 1, 8]));
     checks.even("one shift", &one_shift, Ok([15, 6, 8]));
     checks.meter("two shifts", &shift, [1, 10, 5, 22, 60]);
-    for (name, pairs) in [("shift-good.cycle", &SHIFT_GOOD[..]), ("shift-between.cycle", &SHIFT_BETWEEN)] {
+    for (name, pairs) in
+        [("shift-good.cycle", &SHIFT_GOOD[..]), ("shift-turned.cycle", &SHIFT_TURNED), ("shift-between.cycle", &SHIFT_BETWEEN)]
+    {
         checks.file(name, &file::write(&pairs_of(pairs), usize::MAX).expect(name));
     }
     let touching = with_second(&one_shift, (16, 90));
@@ -327,6 +367,7 @@ fn two_shifts(checks: &mut Checks) {
         [("two shifts", &shift, 0, 13), ("ranges that touch", &touching, 0, 0), ("one shift", &one_shift, 13, 13)]
     {
         checks.cycle(&format!("{name}, shift-good.cycle"), spec, &SHIFT_GOOD, good_gets);
+        checks.cycle(&format!("{name}, shift-turned.cycle"), spec, &SHIFT_TURNED, good_gets);
         checks.cycle(&format!("{name}, shift-between.cycle"), spec, &SHIFT_BETWEEN, between_gets);
     }
     let too_low = spec::write(&with_second(&one_shift, (15, 90)));

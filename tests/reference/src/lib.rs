@@ -2,8 +2,8 @@
 //! starting minute of a round is tried, every k, every gap. It shares no code and no shortcut with the library.
 //!
 //! Where a number is too large for the literal way there is a second, still plain way (`Reports` for `Minutes`, whole periods
-//! or weeks for a walk, counting for the search of size lists, the delays of each report for the choices of all). The tests compare the
-//! two ways on numbers that both can do.
+//! or weeks for a walk, counting for the search of size lists, the delays of each report for the choices of all, a few reports for whole
+//! rounds of two runs). The tests compare the two ways on numbers that both can do.
 
 pub mod cost;
 pub mod cycle;
@@ -14,6 +14,7 @@ pub mod file;
 pub mod late;
 pub mod meter;
 pub mod moments;
+pub mod normal;
 pub mod plan;
 pub mod schedule;
 pub mod spec;
