@@ -1,6 +1,6 @@
 /*
  * Included before plain.c where it is linked beside the library: the same
- * twenty-one functions under names of their own.
+ * twenty-two functions under names of their own.
  */
 #define maxeltu_verdict plain_verdict
 #define maxeltu_consistency plain_consistency
@@ -16,6 +16,7 @@
 #define maxeltu_check_cycle plain_check_cycle
 #define maxeltu_check_late plain_check_late
 #define maxeltu_cycle_cost plain_cycle_cost
+#define maxeltu_normal_form plain_normal_form
 #define maxeltu_read_cycle plain_read_cycle
 #define maxeltu_write_cycle plain_write_cycle
 #define maxeltu_make_meter plain_make_meter

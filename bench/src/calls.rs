@@ -12,6 +12,7 @@ type PlanCost = unsafe extern "C" fn(u32, u32, u32, u32, u32, *mut u64, *mut u64
 type CheckCycle = unsafe extern "C" fn(*const u8, usize, *const Pair, usize) -> u32;
 type CheckLate = unsafe extern "C" fn(*const u8, usize, *const Pair, usize, u32) -> u32;
 type CycleCost = unsafe extern "C" fn(*const u8, usize, *const Pair, usize, u32, *mut u64, *mut u64) -> u32;
+type NormalForm = unsafe extern "C" fn(*const Pair, usize, *mut Pair, usize, *mut u32) -> u32;
 type ReadCycle = unsafe extern "C" fn(*const u8, usize, *mut Pair, usize, *mut u32) -> u32;
 type WriteCycle = unsafe extern "C" fn(*const Pair, usize, *mut u8, usize, *mut u32) -> u32;
 type MakeMeter = unsafe extern "C" fn(*const u8, usize, *mut Meter) -> u32;
@@ -32,8 +33,8 @@ impl Meter {
 macro_rules! declare {
     (
         $verdict:ident $test:ident $even_plan:ident $report:ident $last_report:ident $nearest_report:ident $between:ident
-        $plan_cost:ident $check_cycle:ident $check_late:ident $cycle_cost:ident $read_cycle:ident $write_cycle:ident
-        $make_meter:ident $offer:ident $week_table:ident $calendar_minute:ident $duty_minute:ident
+        $plan_cost:ident $check_cycle:ident $check_late:ident $cycle_cost:ident $normal_form:ident $read_cycle:ident
+        $write_cycle:ident $make_meter:ident $offer:ident $week_table:ident $calendar_minute:ident $duty_minute:ident
     ) => {
         extern "C" {
             fn $verdict(spec: *const u8, spec_len: usize, cycle: *const u8, cycle_len: usize) -> u32;
@@ -47,6 +48,7 @@ macro_rules! declare {
             fn $check_cycle(spec: *const u8, spec_len: usize, pairs: *const Pair, count: usize) -> u32;
             fn $check_late(spec: *const u8, spec_len: usize, pairs: *const Pair, count: usize, lateness: u32) -> u32;
             fn $cycle_cost(spec: *const u8, spec_len: usize, pairs: *const Pair, count: usize, reports: u32, tenths: *mut u64, cents: *mut u64) -> u32;
+            fn $normal_form(pairs: *const Pair, count: usize, normal: *mut Pair, places: usize, normal_count: *mut u32) -> u32;
             fn $read_cycle(file: *const u8, file_len: usize, pairs: *mut Pair, places: usize, count: *mut u32) -> u32;
             fn $write_cycle(pairs: *const Pair, count: usize, file: *mut u8, room: usize, written: *mut u32) -> u32;
             fn $make_meter(spec: *const u8, spec_len: usize, meter: *mut Meter) -> u32;
@@ -60,13 +62,13 @@ macro_rules! declare {
 
 declare!(
     maxeltu_verdict maxeltu_test maxeltu_even_plan maxeltu_report maxeltu_last_report maxeltu_nearest_report maxeltu_between
-    maxeltu_plan_cost maxeltu_check_cycle maxeltu_check_late maxeltu_cycle_cost maxeltu_read_cycle maxeltu_write_cycle
-    maxeltu_make_meter maxeltu_offer maxeltu_week_table maxeltu_calendar_minute maxeltu_duty_minute
+    maxeltu_plan_cost maxeltu_check_cycle maxeltu_check_late maxeltu_cycle_cost maxeltu_normal_form maxeltu_read_cycle
+    maxeltu_write_cycle maxeltu_make_meter maxeltu_offer maxeltu_week_table maxeltu_calendar_minute maxeltu_duty_minute
 );
 declare!(
     plain_verdict plain_test plain_even_plan plain_report plain_last_report plain_nearest_report plain_between
-    plain_plan_cost plain_check_cycle plain_check_late plain_cycle_cost plain_read_cycle plain_write_cycle
-    plain_make_meter plain_offer plain_week_table plain_calendar_minute plain_duty_minute
+    plain_plan_cost plain_check_cycle plain_check_late plain_cycle_cost plain_normal_form plain_read_cycle
+    plain_write_cycle plain_make_meter plain_offer plain_week_table plain_calendar_minute plain_duty_minute
 );
 
 pub struct Calls {
@@ -81,6 +83,7 @@ pub struct Calls {
     check_cycle: CheckCycle,
     check_late: CheckLate,
     cycle_cost: CycleCost,
+    normal_form: NormalForm,
     read_cycle: ReadCycle,
     write_cycle: WriteCycle,
     make_meter: MakeMeter,
@@ -102,6 +105,7 @@ pub const LIBRARY: Calls = Calls {
     check_cycle: maxeltu_check_cycle,
     check_late: maxeltu_check_late,
     cycle_cost: maxeltu_cycle_cost,
+    normal_form: maxeltu_normal_form,
     read_cycle: maxeltu_read_cycle,
     write_cycle: maxeltu_write_cycle,
     make_meter: maxeltu_make_meter,
@@ -123,6 +127,7 @@ pub const PLAIN_C: Calls = Calls {
     check_cycle: plain_check_cycle,
     check_late: plain_check_late,
     cycle_cost: plain_cycle_cost,
+    normal_form: plain_normal_form,
     read_cycle: plain_read_cycle,
     write_cycle: plain_write_cycle,
     make_meter: plain_make_meter,
@@ -195,6 +200,13 @@ impl Calls {
         let (at, list) = (spec.as_ptr(), pairs.as_ptr());
         assert_eq!(unsafe { (self.cycle_cost)(at, spec.len(), list, pairs.len(), reports, &mut tenths, &mut cents) }, 0);
         (tenths, cents)
+    }
+
+    /// How many pairs the normal form has, which is stored in front; of 1 to 512 pairs, and as many places as it takes.
+    pub fn normal_form(&self, pairs: &[Pair], normal: &mut [Pair]) -> u32 {
+        let (mut count, to) = (0, normal.as_mut_ptr());
+        assert_eq!(unsafe { (self.normal_form)(pairs.as_ptr(), pairs.len(), to, normal.len(), &mut count) }, 0);
+        count
     }
 
     pub fn read_cycle(&self, file: &[u8], places: &mut [Pair]) -> u32 {

@@ -6,6 +6,7 @@ mod duty;
 mod late;
 mod meters;
 mod moments;
+mod normal;
 mod windows;
 
 use calls::{Calls, LIBRARY, PLAIN_C};
@@ -192,9 +193,11 @@ fn main() {
     moments::all();
     costs::all();
     late::all();
+    normal::all();
     meters::all();
     duty::all();
     windows::all();
     late::against_check();
     duty::against_near();
+    normal::against_64();
 }

@@ -13,6 +13,15 @@ pub fn heading(name: &str) {
     println!("{name:<60} {:>10} {:>8} {:>10} {:>8} {:>10} {:>8}", "library", "ratio", "plain C", "ratio", "literal", "ratio");
 }
 
+/// One such line: the time of each side, and a ratio.
+pub fn row(name: &str, sides: [(f64, f64); 3]) {
+    print!("{name:<60}");
+    for (time, ratio) in sides {
+        print!(" {:>10} {ratio:>8.2}", shown(time));
+    }
+    println!();
+}
+
 /// A line for each of the three ways to make a call: the time of each side, and its ratio to that side's time with the first way.
 /// `call` makes the call of a side (library, plain C, literal) in one way, both by number. Every cycle must be passed: then every
 /// stretch is looked at.
@@ -24,11 +33,7 @@ pub fn lines(names: [String; 3], call: impl Fn(usize, usize) -> u32) {
     }
     let times = times(calls.each_ref().map(|call| call as &dyn Fn() -> u32));
     for (way, name) in names.iter().enumerate() {
-        print!("{name:<60}");
-        for of_side in times.chunks(3) {
-            print!(" {:>10} {:>8.2}", shown(of_side[way]), of_side[way] / of_side[0]);
-        }
-        println!();
+        row(name, [0, 3, 6].map(|side| (times[side + way], times[side + way] / times[side])));
     }
 }
 
