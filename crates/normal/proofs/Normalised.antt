@@ -27,26 +27,30 @@ pub record Counted (ps : List Pair) : Type 0 where
 pub counted_in : (ps : List Pair) → count_in (length ps) ≡ true → Counted ps
 counted_in ps e = let k = count_in_true (length ps) e in record { counted = e; some = k.0; few = k.1 }
 
--- the answer, and what the lent list holds afterwards
-module _ (ps old : List Pair) where
-  pub bad_count : count_in (length ps) ≡ false → (Err 12 ≡ normalised (length old) ps) × (old ≡ places_after ps old)
-  unfolding normalised places_after
-  bad_count e = (rw e, rw e)
+-- the answer
+module _ (places : ℕ) (ps : List Pair) where
+  pub bad_count : count_in (length ps) ≡ false → normalised places ps ≡ Err 12
+  unfolding normalised
+  bad_count e = rw e
 
   module _ (c : Counted ps) where
-    pub enough_places : period ps ≤ length old → (Ok (period ps) ≡ normalised (length old) ps) × (laid_over (row ps (least_start ps) (period ps)) old ≡ places_after ps old)
-    unfolding normalised places_after
-    enough_places h =
-        (rw (c.counted, normal_length ps c.some, le-leb (period ps) (length old) h), rw (c.counted, normal_length ps c.some, le-leb (period ps) (length old) h, normal_is ps))
+    pub enough_places : period ps ≤ places → normalised places ps ≡ Ok (period ps)
+    unfolding normalised
+    enough_places h = rw (c.counted, normal_length ps c.some, le-leb (period ps) places h)
 
-    pub few_places : length old < period ps → (Err 20 ≡ normalised (length old) ps) × (old ≡ places_after ps old)
-    unfolding normalised places_after
-    few_places h = (rw (c.counted, normal_length ps c.some, lt-leb (period ps) (length old) h), rw (c.counted, normal_length ps c.some, lt-leb (period ps) (length old) h))
+    pub few_places : places < period ps → normalised places ps ≡ Err 20
+    unfolding normalised
+    few_places h = rw (c.counted, normal_length ps c.some, lt-leb (period ps) places h)
 
--- a refusal stores nothing
-pub refused_kept : (ps old : List Pair) (n : ℕ) → normalised (length old) ps ≡ Err n → places_after ps old ≡ old
-unfolding places_after
-refused_kept ps old n e = rw e
+-- by it, what the lent list holds afterwards
+module _ (ps old : List Pair) (n : ℕ) where
+  pub form_stored : normalised (length old) ps ≡ Ok n → places_after ps old ≡ laid_over (row ps (least_start ps) (period ps)) old
+  unfolding places_after
+  form_stored e = rw (e, normal_is ps)
+
+  pub refused_kept : normalised (length old) ps ≡ Err n → places_after ps old ≡ old
+  unfolding places_after
+  refused_kept e = rw e
 
 -- 12 and 20, each exactly where it says
 module _ (ps : List Pair) (places n : ℕ) where

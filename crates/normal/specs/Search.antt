@@ -10,13 +10,15 @@ pub record IsKey (p : Pair) (x : ℕ) : Type 0 where
   pub value : x ≡ p.gap * 65536 + p.size
   pub size_fits : p.size ≤ 65535
 
--- The two starts agree at one pair more; the second start goes on past the pairs that agree and the one behind them; the first does.
+-- one pair more agrees
 abbrev pub longer : Search → Search
 longer s = record { first = s.first; second = s.second; agreed = s.agreed + 1 }
 
+-- the second start goes on past the pairs that agree and the one behind them
 abbrev pub second_on : Search → Search
 second_on s = record { first = s.first; second = s.second + s.agreed + 1; agreed = 0 }
 
+-- the first start does, and not to one that is ruled out before the second
 abbrev pub first_on : Search → Search
 first_on s = let next = max s.second (s.first + s.agreed + 1) in record { first = next; second = next + 1; agreed = 0 }
 
