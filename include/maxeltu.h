@@ -393,11 +393,11 @@ uint32_t maxeltu_cycle_cost(const uint8_t *spec, size_t spec_len,
  * repetition is the cycle's, turned so that it comes first in the order by gap,
  * then size, pair by pair. Gaps and sizes may be any 16-bit numbers, 0 too.
  *
- * Two cycles have equal normal forms, as many pairs and each the same, exactly when the endless repetition of one,
- * begun at some report, is that of the other: so a cycle that starts at another
- * pair, or is written out twice, has the same. The normal form of a normal form is
- * itself, and every check gives a cycle and its normal form the same answer, with
- * every lateness.
+ * Two cycles have equal normal forms, as many pairs and each the same, exactly when
+ * the endless repetition of one, begun at some report, is that of the other: so a
+ * cycle that starts at another pair, or is written out twice, has the same. The
+ * normal form of a normal form is itself, and every check gives a cycle and its
+ * normal form the same answer, with every lateness.
  *
  * Answers 0; 12 where count is 0 or above 512; 20 where `places` are fewer than
  * the pairs of the normal form (as many places as the cycle has pairs are always

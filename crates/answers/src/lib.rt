@@ -172,8 +172,8 @@ pub fn bill_answer(found: Result<Bill, Refusal>, tenths: &mut u64, cents: &mut u
     }
 }
 
-// An answer of one value, whatever its type: a report's number, a calendar minute, a duty minute, the pairs of a normal form. `value_number` and `value_place` of
-// proofs/Places.antt say of numbers that this is `value_answer`.
+// An answer of one value, whatever its type: a report's number, a calendar minute, a duty minute, how many pairs a normal form has.
+// `value_number` and `value_place` of proofs/Places.antt say of numbers that this is `value_answer`.
 #[tactic(auto, unfolding(crate::specs::Answers::held_after), using(crate::proofs::Places::after_refusal))]
 pub fn value_answer<T: Copy>(found: Result<T, Refusal>, place: &mut T) -> u32
     ensures number { result ≡ answer_number found }

@@ -122,12 +122,12 @@ loaded_same : (spec : List ℕ) (c : List Pair) → 1 ≤ length c → length c 
 unfolding verdict_of verdict_read
 loaded_same spec c some few =
     let short : length (normal_form c) ≤ 512 = omega (arith, normal_short c some) in
-    by (read_spec spec) (reads_back 512 (normal_form c) (normal_some c some) short short) (reads_back 512 c some few few)
+    either (read_spec spec) (reads_back 512 (normal_form c) (normal_some c some) short short) (reads_back 512 c some few few)
   where
-    by : (read : Result Spec ℕ) → read_cycle 512 (cycle_bytes (normal_form c)) ≡ Ok (normal_form c) → read_cycle 512 (cycle_bytes c) ≡ Ok c
+    either : (read : Result Spec ℕ) → read_cycle 512 (cycle_bytes (normal_form c)) ≡ Ok (normal_form c) → read_cycle 512 (cycle_bytes c) ≡ Ok c
         → if_read read (λ s. verdict_read s (read_cycle 512 (cycle_bytes (normal_form c)))) (λ n. n) ≡ if_read read (λ s. verdict_read s (read_cycle 512 (cycle_bytes c))) (λ n. n)
-    by (Ok s) a b = rw (a, b) (check_same c some few s)
-    by (Err n) a b = refl
+    either (Ok s) a b = rw (a, b) (check_same c some few s)
+    either (Err n) a b = refl
 
 -- A schedule on duty minutes: no gap of it is below smin, and on the calendar each is as long, or longer.
 kept_on_duty : (table : Table) (s : Spec) (t : Schedule) → IsTable table → IsAccepted s → Obeys s t → KeptOnDuty table s t

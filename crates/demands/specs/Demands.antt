@@ -259,10 +259,10 @@ pub record Demands : Type 0 where
   -- with J = 0 it is the check as it was, and what is passed for some J is passed for every smaller one
   pub on_time : (s : Spec) (c : List Pair) → late_number s 0 c ≡ check_number s c
   pub late_less : (s : Spec) (less more : ℕ) (c : List Pair) → less ≤ more → late_number s more c ≡ 0 → late_number s less c ≡ 0
-  -- Every check gives a cycle and its normal form the same number (document 02, Req 12), against every specification and with every lateness,
+  -- Every check gives a cycle and its normal form the same number (document 02, Req 12), against every specification and with every lateness.
   pub normal_number : (s : Spec) (lateness : ℕ) (c : List Pair) → 1 ≤ length c → length c ≤ 512
       → (check_number s (normal_form c) ≡ check_number s c) × (late_number s lateness (normal_form c) ≡ late_number s lateness c)
-  -- against a specification's file too, whatever its bytes; and so does the loader's call of the files of both
+  -- So does every check against a specification's file, whatever its bytes, and the loader's call, given the files of both.
   pub normal_file_number : (spec : List ℕ) (lateness : ℕ) (c : List Pair) → 1 ≤ length c → length c ≤ 512
       → (check_file_number (read_spec spec) (normal_form c) ≡ check_file_number (read_spec spec) c)
       × (late_file_number (read_spec spec) lateness (normal_form c) ≡ late_file_number (read_spec spec) lateness c)
