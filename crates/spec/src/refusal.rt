@@ -41,6 +41,8 @@ pub enum Refusal {
     // A week table, and a calendar minute of one.
     WeekTable = 27,
     Closed = 28,
+    // Which of two dated cycle files is in force, beside the numbers of reading one.
+    SameDay = 29,
 }
 
 impl Refusal {
