@@ -1,4 +1,5 @@
 pub mod Fields
+pub mod Maps
 pub mod OnePair
 pub mod PairByPair
 pub mod WholeFile

@@ -33,11 +33,11 @@ stored_over (p ∷ ps) qs old i e h =
     ∙ ap (λ (l : List Pair). laid_over (flatten l) old) (append_assoc qs (p ∷ []) ps)
 
 -- the answer where i pairs are stored and the rest reads so
-abbrev answer_from : ℕ → Result (List Pair) ℕ → Result ℕ ℕ
+abbrev pub answer_from : ℕ → Result (List Pair) ℕ → Result ℕ ℕ
 answer_from i (Ok ps) = Ok (i + length ps)
 answer_from i (Err n) = Err n
 
-answer_whole : (r : Result (List Pair) ℕ) → answer_from 0 r ≡ file_answer r
+pub answer_whole : (r : Result (List Pair) ℕ) → answer_from 0 r ≡ file_answer r
 answer_whole (Ok ps) = ap Ok (zero-add (length ps))
 answer_whole (Err n) = refl
 

@@ -5,17 +5,18 @@ use Prim.Native.Nat.{ℕ, zero, suc, ◌+◌, ◌*◌, ◌/◌, ◌%◌, ◌≤�
 use native.Mathlib.Nat.{zero-add}
 use native.Mathlib.Numerals.{add-one}
 use native.Mathlib.Omega.{arith}
-use mathlib.Core.Bool.{Bool, true, false, cond, not, ◌&&◌, ◌||◌}
+use mathlib.Core.Bool.{Bool, true, false, cond}
 use mathlib.Core.List.{List, [], ◌∷◌, ◌++◌}
 use lib.Dec.{ltb}
 use lib.ListN.{length, get_or, take, drop, length-append, take-append-drop}
 use lib.Seq.{drop-append_seam, drop-cons, take-add, get_or-drop}
-use borrow.Author.Tests.{eqb-true, eq-eqb, not-false, le-leb, ltb-false}
+use borrow.Author.Tests.{eqb-true, not-false, le-leb}
 use Rattle.std.specs.Prelude.{Option, None, Some, Ok}
 use Rattle.pairs.specs.declared.Pair.{Pair}
 use Rattle.spec.specs.File.{word}
 use Rattle.cyclefile.specs.File.{AreBytes, read_cycle, last_pair, stands, gap_stands, size_stands, map_byte, bytes_of, field_bytes, pair_bytes, pairs_bytes, cycle_bytes, has_gap, has_size, map_is_wrong, field_length, bytes_taken, pair_at, stands_in_vain, read_pair, read_pairs, taken_pair}
 use Rattle.pairs.proofs.Counts.{count_in_true}
+use Rattle.cyclefile.proofs.Maps.{map_again, map_told, in_vain_by_map}
 use Rattle.cyclefile.proofs.OnePair.{took}
 use Rattle.cyclefile.proofs.OnePair as one
 use Rattle.cyclefile.proofs.PairByPair.{split, ended, length_read}
@@ -26,7 +27,7 @@ use Rattle.cyclefile.proofs.Fields.{length_pair_bytes}
 -- ---- what is written can be read
 
 -- 2 bytes, and the number that they are
-joined : (n : ℕ) → n / 256 * 256 + n % 256 ≡ n
+pub joined : (n : ℕ) → n / 256 * 256 + n % 256 ≡ n
 joined n = omega arith
 
 -- the bits of a map byte that is written
@@ -107,7 +108,7 @@ apart : (h l : ℕ) → l < 256 → bytes_of (h * 256 + l) ≡ h ∷ l ∷ []
 apart h l b = let e : (h * 256 + l) / 256 ≡ h = omega arith in let f : (h * 256 + l) % 256 ≡ l = omega arith in rw (e, f)
 
 -- a field that stands in a file is its 2 bytes there
-field_kept : (t : Bool) (b : List ℕ) (k : ℕ) → AreBytes b → k + field_length t ≤ length b → take (field_length t) (drop k b) ≡ field_bytes t (word b k)
+pub field_kept : (t : Bool) (b : List ℕ) (k : ℕ) → AreBytes b → k + field_length t ≤ length b → take (field_length t) (drop k b) ≡ field_bytes t (word b k)
 field_kept true b k small long = rw (drop-cons b k 0 (omega arith), drop-cons b (suc k) 0 (omega arith), add-one k) (sym (apart (get_or b k 0) (get_or b (suc k) 0) (small (suc k))))
 field_kept false b k small long = refl
 
@@ -115,40 +116,9 @@ field_same : (t : Bool) (n m : ℕ) → field_bytes t (cond t n m) ≡ field_byt
 field_same true n m = refl
 field_same false n m = refl
 
--- a map byte with no bits above the second is told by its bits
-map_again : (m : ℕ) → ltb 3 m ≡ false → map_byte (has_gap m) (has_size m) ≡ m
-map_again zero e = refl
-map_again (suc zero) e = refl
-map_again (suc (suc zero)) e = refl
-map_again (suc (suc (suc zero))) e = refl
-map_again (suc (suc (suc (suc m)))) e = absurd (let h = ltb-false 3 (suc (suc (suc (suc m)))) e in omega arith)
-
-or_false : (a b : Bool) → (a || b) ≡ false → (a ≡ false) × (b ≡ false)
-or_false true b e = cc
-or_false false b e = (refl, e)
-
-and_true_left : (a b : Bool) → (a && b) ≡ true → a ≡ true
-and_true_left true b e = refl
-and_true_left false b e = e
-
-and_true_right : (a b : Bool) → (a && b) ≡ true → b ≡ true
-and_true_right true b e = e
-and_true_right false b e = cc
-
 no_bytes : (b : List ℕ) → length b ≡ 0 → b ≡ []
 no_bytes [] e = refl
 no_bytes (x ∷ b) e = absurd (omega arith)
-
--- a map byte that is not wrong: no bits above the second, and both below it in the first pair
-map_told : (before : Option Pair) (m : ℕ) → map_is_wrong before m ≡ false → (ltb 3 m ≡ false) × (before ≡ None → (has_gap m && has_size m) ≡ true)
-map_told None m e = let k = or_false (ltb 3 m) (not (has_gap m && has_size m)) e in (k.0, λ z. not-false _ k.1)
-map_told (Some q) m e = (e, λ z. cc)
-
--- a field that was read stands exactly where it should
-stands_right : (before : Option Pair) (field : Pair → ℕ) (p : Pair) (t : Bool) (n : ℕ) → (before ≡ None → t ≡ true) → field p ≡ cond t n (field (last_pair before)) → (t && not (stands before field p)) ≡ false → stands before field p ≡ t
-stands_right None field p t n h e v = sym (h refl)
-stands_right (Some q) field p true n h e v = not-false _ v
-stands_right (Some q) field p false n h e v = ap not (eq-eqb (field p) (field q) e)
 
 first_byte : (b : List ℕ) → 1 ≤ length b → take 1 b ≡ get_or b 0 0 ∷ []
 first_byte [] h = absurd (omega arith)
@@ -169,14 +139,14 @@ pair_kept before b p n small h =
     let t = took before b p n h in
     let m = get_or b 0 0 in
     let q = pair_at (last_pair before) b in
-    let right = map_told before m t.right in
-    let vain = or_false (has_gap m && not (gap_stands before q)) (has_size m && not (size_stands before q)) t.none_in_vain in
-    let gap : gap_stands before q ≡ has_gap m = stands_right before (λ (r : Pair). r.gap) q (has_gap m) (word b 1) (λ f. and_true_left (has_gap m) (has_size m) (right.1 f)) refl vain.0 in
-    let size : size_stands before q ≡ has_size m = stands_right before (λ (r : Pair). r.size) q (has_size m) (word b (1 + field_length (has_gap m))) (λ f. and_true_right (has_gap m) (has_size m) (right.1 f)) refl vain.1 in
+    -- the map is the one that the pair is written with, as no field stands in vain
+    let written : m ≡ map_byte (gap_stands before q) (size_stands before q) = eqb-true _ _ (not-false _ (sym (in_vain_by_map before b t.right) ∙ t.none_in_vain)) in
+    let gap : gap_stands before q ≡ has_gap m = sym (ap has_gap written ∙ has_gap_lem (gap_stands before q) (size_stands before q)) in
+    let size : size_stands before q ≡ has_size m = sym (ap has_size written ∙ has_size_lem (gap_stands before q) (size_stands before q)) in
     let bytes : pair_bytes before q ≡ take (bytes_taken m) b =
     ap (λ (t : Bool). map_byte t (size_stands before q) ∷ (field_bytes t q.gap ++ field_bytes (size_stands before q) q.size)) gap
     ∙ ap (λ (t : Bool). map_byte (has_gap m) t ∷ (field_bytes (has_gap m) q.gap ++ field_bytes t q.size)) size
-    ∙ ap (λ (k : ℕ). k ∷ (field_bytes (has_gap m) q.gap ++ field_bytes (has_size m) q.size)) (map_again m right.0)
+    ∙ ap (λ (k : ℕ). k ∷ (field_bytes (has_gap m) q.gap ++ field_bytes (has_size m) q.size)) (map_again m (map_told before m t.right).0)
     ∙ ap (λ (l : List ℕ). m ∷ (l ++ field_bytes (has_size m) q.size)) (field_same (has_gap m) (word b 1) (last_pair before).gap)
     ∙ ap (λ (l : List ℕ). m ∷ (field_bytes (has_gap m) (word b 1) ++ l)) (field_same (has_size m) (word b (1 + field_length (has_gap m))) (last_pair before).size)
     ∙ bytes_kept b (has_gap m) (has_size m) small t.long in

@@ -11,9 +11,9 @@ use borrow.Author.Tests.{lt-ltb, le-ltb, ltb-true, ltb-false}
 use Rattle.std.specs.Prelude.{None, Result, Ok, Err}
 use Rattle.spec.specs.File.{word}
 use Rattle.pairs.specs.declared.Pair.{Pair}
-use Rattle.pairs.specs.Pairs.{count_in, flatten, laid_over}
+use Rattle.pairs.specs.Pairs.{count_in}
 use Rattle.pairs.proofs.Counts.{count_in_true}
-use Rattle.cyclefile.specs.File.{read_pairs, read_cycle, passed_pairs, stored_pairs, file_answer}
+use Rattle.cyclefile.specs.File.{read_pairs, read_count, read_cycle, passed_pairs, stored_pairs, file_answer}
 use Rattle.cyclefile.proofs.PairByPair.{length_read, passed_all}
 
 module _ (places : ℕ) (file : List ℕ) where
@@ -21,26 +21,22 @@ module _ (places : ℕ) (file : List ℕ) where
   abbrev pub RefusedAtOnce : ℕ → Type 0
   RefusedAtOnce n = (read_cycle places file ≡ Err n) × (stored_pairs places file ≡ [])
 
-  -- so the answer is the refusal, and the words are what they were
-  pub at_once : {n : ℕ} (words : List ℕ) → RefusedAtOnce n → (Err n ≡ file_answer (read_cycle places file)) × (words ≡ laid_over (flatten (stored_pairs places file)) words)
-  at_once words h = rw (h.0, h.1) (refl, refl)
-
   pub no_count : length file < 2 → RefusedAtOnce 18
-  unfolding read_cycle stored_pairs
+  unfolding read_cycle stored_pairs read_count
   no_count h = rw (lt-ltb (length file) 2 h) (refl, refl)
 
   module _ (long : 2 ≤ length file) where
     pub bad_count : count_in (word file 0) ≡ false → RefusedAtOnce 12
-    unfolding read_cycle stored_pairs
+    unfolding read_cycle stored_pairs read_count
     bad_count h = rw (le-ltb (length file) 2 long, h) (refl, refl)
 
     module _ (counted : count_in (word file 0) ≡ true) where
       pub few_places : places < word file 0 → RefusedAtOnce 20
-      unfolding read_cycle stored_pairs
+      unfolding read_cycle stored_pairs read_count
       few_places h = rw (le-ltb (length file) 2 long, counted, lt-ltb places (word file 0) h) (refl, refl)
 
       pub pair_by_pair : word file 0 ≤ places → (read_cycle places file ≡ read_pairs (word file 0) None (drop 2 file)) × (stored_pairs places file ≡ passed_pairs (word file 0) None (drop 2 file))
-      unfolding read_cycle stored_pairs
+      unfolding read_cycle stored_pairs read_count
       pair_by_pair h = rw (le-ltb (length file) 2 long, counted, le-ltb places (word file 0) h) (refl, refl)
 
 -- how a file begins: one of the four
@@ -123,7 +119,7 @@ same_test places n h true e = lt-ltb (min places 512) n (let k = ltb-true places
 same_test places n h false e = le-ltb (min places 512) n (let k = ltb-false places n e in omega arith)
 
 places_by : (places : ℕ) (file : List ℕ) (short counted : Bool) → ltb (length file) 2 ≡ short → count_in (word file 0) ≡ counted → read_cycle (min places 512) file ≡ read_cycle places file
-unfolding read_cycle
+unfolding read_cycle read_count
 places_by places file true counted e₁ e₂ = rw e₁
 places_by places file false false e₁ e₂ = rw (e₁, e₂)
 places_by places file false true e₁ e₂ = rw (same_test places (word file 0) (count_in_true (word file 0) e₂).1 (ltb places (word file 0)) refl)

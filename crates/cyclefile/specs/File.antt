@@ -116,13 +116,22 @@ unfoldable pub read_pairs : ℕ → Option Pair → List ℕ → Result (List Pa
 read_pairs zero before b = cond (eqb (length b) 0) (Ok []) (Err 21)
 read_pairs (suc n) before b = after_pair (read_pair before b) Err (λ (p : Pair) (taken : ℕ). with_first p (read_pairs n (Some p) (drop taken b)))
 
--- "18 under 2 bytes; 12; 20 the lent list has fewer places than the count; then pair by pair .."
-unfoldable pub read_cycle : ℕ → List ℕ → Result (List Pair) ℕ
-read_cycle places file =
+-- "18 under 2 bytes; 12; 20 the lent list has fewer places than the count": the count that a file begins with, or the number
+unfoldable pub read_count : ℕ → List ℕ → Result ℕ ℕ
+read_count places file =
     cond (ltb (length file) 2) (Err 18)
     (cond (not (count_in (word file 0))) (Err 12)
     (cond (ltb places (word file 0)) (Err 20)
-    (read_pairs (word file 0) None (drop 2 file))))
+    (Ok (word file 0))))
+
+-- what follows a count, or a refusal
+abbrev pub after_count : {R : Type 0} → Result ℕ ℕ → (ℕ → R) → (ℕ → R) → R
+after_count (Ok n) stop rest = rest n
+after_count (Err m) stop rest = stop m
+
+-- ".. then pair by pair .."
+unfoldable pub read_cycle : ℕ → List ℕ → Result (List Pair) ℕ
+read_cycle places file = after_count (read_count places file) Err (λ (n : ℕ). read_pairs n None (drop 2 file))
 
 -- the pairs in front of the first refusal, and all n where there is none
 unfoldable pub passed_pairs : ℕ → Option Pair → List ℕ → List Pair
@@ -131,7 +140,7 @@ passed_pairs (suc n) before b = after_pair (read_pair before b) (λ (m : ℕ). [
 
 -- of a whole file: what is stored where each pair is stored as it is read
 unfoldable pub stored_pairs : ℕ → List ℕ → List Pair
-stored_pairs places file = cond (ltb (length file) 2 || not (count_in (word file 0)) || ltb places (word file 0)) [] (passed_pairs (word file 0) None (drop 2 file))
+stored_pairs places file = after_count (read_count places file) (λ (m : ℕ). []) (λ (n : ℕ). passed_pairs n None (drop 2 file))
 
 -- ---- What calls answer, and what they leave in lent places
 

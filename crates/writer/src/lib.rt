@@ -6,9 +6,9 @@ ghost use Rattle.std.specs.Prelude.{◌≡◌, ◌+◌, ◌/◌, ◌≤◌, None
 ghost use Rattle.std.proofs.lemmas.List.Edits.{sets};
 ghost use Rattle.spec.specs.Refusals.{answer_number};
 ghost use Rattle.pairs.specs.Pairs.{pairs_of};
-ghost use Rattle.cyclefile.specs.File.{gap_stands, size_stands, bytes_of, field_length, map_byte, field_bytes, pair_bytes, pairs_bytes, cycle_bytes, write_number, bytes_after};
+ghost use Rattle.cyclefile.specs.File.{gap_stands, size_stands, bytes_of, field_length, field_bytes, pair_bytes, pairs_bytes, cycle_bytes, write_number, bytes_after};
 
-use cyclefile::{differs, field_length};
+use cyclefile::{differs, field_length, map_byte};
 use pairs::Pair;
 use spec::refusal::Refusal;
 
@@ -72,12 +72,6 @@ fn put_field(file: &mut [u8], at: usize, stands: bool, field: u16) -> usize
     } else {
         at
     }
-}
-
-fn map_byte(gap: bool, size: bool) -> u8
-    ensures { result ≡ map_byte gap size }
-{
-    u8::from(gap) + 2 * u8::from(size)
 }
 
 // Stores a pair, after the one before; gives the place behind it.

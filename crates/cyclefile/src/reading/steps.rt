@@ -1,10 +1,10 @@
 // One pair of a cycle file.
-ghost use Rattle.std.specs.Prelude.{◌≡◌, ◌+◌, ◌≤◌, IfOk, cond, length};
+ghost use Rattle.std.specs.Prelude.{◌≡◌, ◌+◌, ◌≤◌, IfOk, cond, not, eqb, length};
 ghost use Rattle.spec.specs.Refusals.{numbered};
 ghost use Rattle.spec.specs.File.{word};
-ghost use Rattle.cyclefile.specs.File.{read_pair, has_gap, has_size, map_is_wrong, stands_in_vain, last_pair, field_length, bytes_taken};
+ghost use Rattle.cyclefile.specs.File.{read_pair, gap_stands, size_stands, map_byte, has_gap, has_size, map_is_wrong, last_pair, field_length, bytes_taken};
 
-use crate::{differs, field_length};
+use crate::{differs, field_length, map_byte};
 use pairs::Pair;
 use spec::refusal::Refusal;
 
@@ -54,12 +54,16 @@ impl PairMap {
         (3 < self.0) | (before.is_none() & !(self.has_gap() & self.has_size()))
     }
 
-    // Whether a field stands that should be left out.
+    // Whether a pair that was read is written with another map: then a field stands that should be left out. (No field that should stand is
+    // left out, since one that is left out equals the one before.)
     fn is_in_vain(self, before: &Option<Pair>, pair: Pair) -> bool
-        ensures { result ≡ stands_in_vain before.now self.0 pair }
+        ensures { result ≡ not (eqb self.0 (map_byte (gap_stands before.now pair) (size_stands before.now pair))) }
     {
-        (self.has_gap() & !differs(before.as_ref().map(|last| last.gap), pair.gap))
-            | (self.has_size() & !differs(before.as_ref().map(|last| last.size), pair.size))
+        self.0
+            != map_byte(
+                differs(before.as_ref().map(|last| last.gap), pair.gap),
+                differs(before.as_ref().map(|last| last.size), pair.size),
+            )
     }
 }
 
@@ -97,7 +101,7 @@ fn last_pair(before: &Option<Pair>) -> Pair
 
 // The pair that the bytes start with, after the one before. That is lent: handed over, its two numbers would be packed into one at each
 // pair, which takes longer.
-#[tactic(auto, unfolding(crate::specs::File::read_pair))]
+#[tactic(auto, unfolding(crate::specs::File::read_pair), using(crate::proofs::Maps::in_vain_by_map))]
 pub(crate) fn read_pair(before: &Option<Pair>, bytes: &[u8]) -> Result<Taken, Refusal>
     ensures pair { numbered result ≡ read_pair before.now bytes.now }
     ensures within { IfOk result (λ t. t.bytes ≤ length bytes.now) }

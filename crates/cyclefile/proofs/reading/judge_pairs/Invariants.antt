@@ -1,0 +1,12 @@
+-- What is left of the file, read after the pairs that are judged, decides the answer. A step takes its pair, stops with its refusal, or
+-- none is left. The laws of OnePass speak of the words too: none are lent here, so they are handed an empty list, and of each only the answer
+-- is taken. Assumes nothing.
+use mathlib.Core.Path.{◌≡◌}
+use Prim.Native.Nat.{◌-◌}
+use Rattle.std.specs.Prelude.{None}
+use Rattle.cyclefile.specs.File.{read_pairs}
+use Rattle.cyclefile.proofs.OnePass.{answer_from}
+use Rattle.cyclefile.proofs.reading.judge_pairs.Given as goal
+
+abbrev pub invariant-loop : goal.invariant-loop
+invariant-loop l = answer_from l.counter (read_pairs (l.count - l.counter) l.before l.rest) ≡ answer_from 0 (read_pairs l.count None l.initial.rest)
