@@ -1,0 +1,4 @@
+pub mod Readings
+pub mod Chosen
+pub mod Promises
+pub mod Worked
