@@ -26,7 +26,8 @@
  *  - The length of a list or of bytes that is handed in is a size_t, as C counts
  *    them, and any length may be handed in. Every number that is handed out is
  *    a uint32_t (a minute of a report or of the calendar, the records between two
- *    minutes, and a bill, a uint64_t), also the count of pairs that were read and
+ *    minutes, and a bill, a uint64_t; the length of a part, which is handed in
+ *    again, a size_t), also the count of pairs that were read and
  *    the length of a file that was written: these are at most 512 and 2562, and
  *    callers have one type for all of them.
  *  - The places behind two pointers of one call must not overlap, unless the
@@ -39,7 +40,8 @@
  *    on the stack: 2,048 bytes, and with all else that it needs at most some
  *    2,400 (measured on x86-64; tests/c/stack.c tells it of another build). A check
  *    looks at each pair a fixed number of times at most, whatever R, P and the
- *    lateness are. A normal form is found with no copy of the cycle.
+ *    lateness are. A normal form is found, and a dated file judged, with no copy of
+ *    the cycle.
  *
  * Specification file: one byte of bit map (bit 0, the lowest, size; 1 gap;
  * 2 supply; 3 demand; 4 duration; 5 second range of gaps). Then, in that order,
@@ -52,6 +54,10 @@
  * one byte of bit map (bit 0 gap, bit 1 size) and 2 bytes for each bit that
  * stands, gap before size, high byte first. The first pair has both fields;
  * after it a field is left out exactly when it equals that of the pair before.
+ *
+ * Dated cycle file: an issue day, 2 bytes, high byte first, and then a cycle file.
+ * Days are numbers, of which the larger is the later: one that began again at 0 is
+ * an earlier one.
  */
 #ifndef MAXELTU_H
 #define MAXELTU_H
@@ -96,7 +102,7 @@ enum maxeltu_refusal {
 
     /* A cycle's file, and the room lent for a cycle, its normal form or its file. */
     MAXELTU_PAIR_MAP = 17,        /* a pair's bit map has bit 2 to 7, or the first pair lacks a field */
-    MAXELTU_FILE_CUT = 18,        /* the file ends early, in its count, a map byte or a field: fetch it again */
+    MAXELTU_FILE_CUT = 18,        /* the file ends early, in its issue day, its count, a map byte or a field: fetch it again */
     MAXELTU_FIELD_REPEATED = 19,  /* a field that should have been left out: it equals the one before */
     MAXELTU_NO_ROOM = 20,         /* the lent list or the lent bytes are too few */
     MAXELTU_BYTES_OVER = 21,      /* bytes follow the last pair, and all pairs are right: write to the carrier */
@@ -109,7 +115,10 @@ enum maxeltu_refusal {
 
     /* Duty hours. */
     MAXELTU_WEEK_TABLE = 27,      /* the week table breaks a rule, opens no minute, or has not MAXELTU_TABLE_NUMBERS numbers */
-    MAXELTU_CLOSED = 28           /* the calendar minute is closed: no duty minute */
+    MAXELTU_CLOSED = 28,          /* the calendar minute is closed: no duty minute */
+
+    /* Which of two dated cycle files is in force; beside those of a cycle's file. */
+    MAXELTU_SAME_DAY = 29         /* both files can be read and have the same issue day, but they differ */
 };
 
 /* Limits. Each value of a specification is at least 1 and at most: */
@@ -123,7 +132,7 @@ enum maxeltu_limit {
     MAXELTU_MAX_PAIRS = 512,      /* pairs in a cycle */
     MAXELTU_MAX_LATENESS = 1440,  /* minutes that a report may arrive late */
     MAXELTU_MAX_SPEC_FILE = 25,   /* bytes of the longest specification file */
-    MAXELTU_MAX_CYCLE_FILE = 2562, /* bytes of the longest cycle file: 2 + 512 * 5 */
+    MAXELTU_MAX_CYCLE_FILE = 2562, /* bytes of the longest cycle file: 2 + 512 * 5; a dated one has 2 more */
     MAXELTU_METER_PLACES = 1024,  /* reports that a meter can hold */
     MAXELTU_TABLE_NUMBERS = 28    /* numbers of a week table: 7 days, 2 windows, opening and closing */
 };
@@ -438,6 +447,53 @@ uint32_t maxeltu_read_cycle(const uint8_t *file, size_t file_len,
  */
 uint32_t maxeltu_write_cycle(const struct maxeltu_pair *pairs, size_t count,
                              uint8_t *file, size_t room, uint32_t *written);
+
+/*
+ * Which of two dated cycle files is in force. A file that cannot be read, as
+ * maxeltu_read_cycle reads its cycle part into 512 places, gives way to one that
+ * can. Of two that can be read the one with the later issue day is in force; of
+ * equal files, day and all, the first.
+ *
+ * Answers 0; where neither can be read, what reading the first gives: 18 where it
+ * has no whole issue day, else 12, 17 to 19 or 21, as maxeltu_read_cycle; 29 where
+ * both can be read and have the same issue day, but differ.
+ * Handed in the other way round the same file is told, or the same number, unless
+ * the two are equal or neither can be read.
+ * Reads each file once, and once more only two that can be read and have the same
+ * day. Stores no pair.
+ * Writes *which: 1 for the first, 2 for the second.
+ */
+uint32_t maxeltu_in_force(const uint8_t *first, size_t first_len,
+                          const uint8_t *second, size_t second_len,
+                          uint32_t *which);
+
+/* A caller's bytes: where they begin, and how many there are. */
+struct maxeltu_bytes {
+    const uint8_t *at;
+    size_t length;
+};
+
+/*
+ * The cycle part of the file in force: the bytes of that file itself, past its
+ * issue day, which maxeltu_read_cycle and maxeltu_verdict take. No byte is copied,
+ * so they last as long as the file that was handed in. Where maxeltu_in_force does
+ * not answer 0 there are none (length 0, where the first file begins), and only
+ * there: a cycle file has bytes.
+ * This is no call of the library, which can hand no bytes back to C, but written
+ * here over maxeltu_in_force. It takes C99 or later, or C++.
+ */
+static inline struct maxeltu_bytes
+maxeltu_part_in_force(const uint8_t *first, size_t first_len,
+                      const uint8_t *second, size_t second_len)
+{
+    struct maxeltu_bytes part = { first, 0 };
+    uint32_t which = 0;
+    if (maxeltu_in_force(first, first_len, second, second_len, &which) == MAXELTU_OK) {
+        part.at = (which == 1 ? first : second) + 2;
+        part.length = (which == 1 ? first_len : second_len) - 2;
+    }
+    return part;
+}
 
 /*
  * Makes a meter for a specification, which has accepted nothing yet. Of the

@@ -10,6 +10,8 @@ use Rattle.consistency.specs.declared.Condition.{Condition}
 use Rattle.consistency.specs.declared.Condition.TheVariants.{BoundsFitRates, FewestReportsFitBudget, EnoughReportsForDemand, SupplyCoversDemand}
 use Rattle.consistency.specs.Consistency.{Failing, inconsistent, refused}
 use Rattle.families.specs.declared.Scheduled.{Scheduled}
+use Rattle.dated.specs.declared.InForce.{InForce}
+use Rattle.dated.specs.declared.InForce.TheVariants.{First, Second}
 
 -- the number, 0 where nothing is refused, and the values that go with it
 pub record Answer : Type 0 where
@@ -69,6 +71,16 @@ contents_answer (Err n) = refusal n
 abbrev pub bill_answer : Result Bill ℕ → Answer
 bill_answer (Ok x) = yields (x.tenths ∷ x.cents ∷ [])
 bill_answer (Err n) = refusal n
+
+-- 1 the first of two dated files, 2 the second
+abbrev pub which_file : InForce → ℕ
+which_file First = 1
+which_file Second = 2
+
+-- which is in force; or 12, 17 to 19, 21, 29 (document 02, Req 13)
+abbrev pub in_force_answer : Result InForce ℕ → Answer
+in_force_answer (Ok w) = yields (which_file w ∷ [])
+in_force_answer (Err n) = refusal n
 
 -- One number: that of the last or the nearest report, or 11 (document 02, Req 05); the calendar minute of a duty minute, or 27, and the duty
 -- minute of an open calendar minute, or 27, 28 (document 02, Req 11); how many pairs a normal form has, or 12, 20 (document 02, Req 12).

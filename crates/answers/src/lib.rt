@@ -7,10 +7,11 @@ ghost use Rattle.std.specs.Prelude.{◌≡◌};
 ghost use Rattle.std.specs.Result.{result_unwrap_or};
 ghost use Rattle.spec.specs.Refusals.{numbered, answer_number};
 ghost use Rattle.consistency.specs.Consistency.{told};
-ghost use Rattle.answers.specs.Answers.{condition_number, consistency_answer, scheduled_answer, tested_answer, even_answer, report_answer, contents_answer, bill_answer, held_after};
+ghost use Rattle.answers.specs.Answers.{condition_number, consistency_answer, scheduled_answer, tested_answer, even_answer, report_answer, contents_answer, bill_answer, in_force_answer, held_after};
 
 use consistency::{Condition, Unfit};
 use cost::Bill;
+use dated::InForce;
 use families::Scheduled;
 use plan::moments::Contents;
 use plan::{Plan, Report};
@@ -166,6 +167,20 @@ pub fn bill_answer(found: Result<Bill, Refusal>, tenths: &mut u64, cents: &mut u
         Ok(bill) => {
             *tenths = bill.tenths;
             *cents = bill.cents;
+            0
+        }
+        Err(refusal) => refusal.number(),
+    }
+}
+
+#[tactic(auto, unfolding(crate::specs::Answers::held_after), using(crate::proofs::Places::after_refusal))]
+pub fn in_force_answer(found: Result<InForce, Refusal>, which: &mut u32) -> u32
+    ensures number { result ≡ (in_force_answer (numbered found)).number }
+    ensures which { which.new ≡ held_after 0 0 (in_force_answer (numbered found)) which.old }
+{
+    match found {
+        Ok(file) => {
+            *which = file as u32;
             0
         }
         Err(refusal) => refusal.number(),

@@ -15,8 +15,9 @@ use Rattle.even.specs.Even.{even_plan}
 use Rattle.pairs.specs.declared.Pair.{Pair}
 use Rattle.cost.specs.Bills.{plan_bill, cycle_bill}
 use Rattle.normal.specs.Answers.{normalised}
+use Rattle.dated.specs.InForce.{in_force}
 use Rattle.duty.specs.Minutes.{calendar_of, duty_of, table_of}
-use Rattle.answers.specs.Answers.{Answer, refusal, consistency_answer, scheduled_answer, tested_answer, even_answer, report_answer, contents_answer, bill_answer, value_answer}
+use Rattle.answers.specs.Answers.{Answer, refusal, consistency_answer, scheduled_answer, tested_answer, even_answer, report_answer, contents_answer, bill_answer, in_force_answer, value_answer}
 
 unfoldable pub consistency_call : List ℕ → Answer
 consistency_call bytes = if_read (read_spec bytes) (λ s. consistency_answer (consistency_of s)) refusal
@@ -64,6 +65,10 @@ cycle_cost_call bytes ps reports = if_read (read_spec bytes) (λ s. bill_answer 
 -- the normal form of a list of pairs, for a lent list of so many places
 unfoldable pub normal_call : List Pair → (places : ℕ) → Answer
 normal_call ps places = value_answer (normalised places ps)
+
+-- which of two dated cycle files is in force
+unfoldable pub in_force_call : (first second : List ℕ) → Answer
+in_force_call first second = in_force_answer (in_force first second)
 
 -- a call on a week table, which comes as a list of numbers
 unfoldable pub calendar_call : List ℕ → (duty : ℕ) → Answer

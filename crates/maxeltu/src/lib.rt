@@ -19,7 +19,7 @@ ghost use Rattle.duty.specs.Weeks.{table_number};
 ghost use Rattle.duty.specs.Minutes.{table_of};
 ghost use Rattle.answers.specs.Answers.{held_after};
 ghost use Rattle.maxeltu.specs.Verdict.{verdict_of};
-ghost use Rattle.maxeltu.specs.Calls.{consistency_call, schedule_call, test_call, even_call, plan_named, report_call, last_call, nearest_call, between_call, plan_cost_call, cycle_cost_call, normal_call, calendar_call, duty_call};
+ghost use Rattle.maxeltu.specs.Calls.{consistency_call, schedule_call, test_call, even_call, plan_named, report_call, last_call, nearest_call, between_call, plan_cost_call, cycle_cost_call, normal_call, in_force_call, calendar_call, duty_call};
 
 use cyclefile::reading;
 use families::Family;
@@ -369,6 +369,15 @@ pub fn maxeltu_write_cycle(pairs: &[Pair], file: &mut [u8], written: &mut u32) -
         }
         Err(refusal) => refusal.number(),
     }
+}
+
+// Which of two dated cycle files is in force: 1 the first, 2 the second.
+#[tactic(auto, unfolding(crate::specs::Calls::in_force_call))]
+pub fn maxeltu_in_force(first: &[u8], second: &[u8], which: &mut u32) -> u32
+    ensures { (result ≡ (in_force_call first.now second.now).number)
+        × (which.new ≡ held_after 0 0 (in_force_call first.now second.now) which.old) }
+{
+    answers::in_force_answer(dated::in_force(first, second), which)
 }
 
 // Makes a meter for a specification's file: a lent one is written only where there is no refusal.
