@@ -53,6 +53,8 @@ use Rattle.cyclefile.proofs.RoundTrip.{reads_back, writes_back, reads_cycles}
 use Rattle.cyclefile.proofs.Refusals.{CycleRefusal, cycle_numbered}
 use Rattle.cyclefile.proofs.CutOrOver.{cut_off, number_stays, over_refused, over_whole}
 use Rattle.cyclefile.proofs.WrittenBytes.{writes_bytes}
+use Rattle.dated.proofs.Readings.{dated_is_read, is_read, was_written}
+use Rattle.dated.proofs.Promises.{in_force_first, in_force_second, in_force_numbers, part_empty, part_reads, part_written, either_order, same_part}
 use Rattle.meter.proofs.Steps.{refused_meter_kept}
 use Rattle.meter.proofs.SameAnswers.{same_answers, holds_few}
 use Rattle.meter.proofs.Budget.{budget_kept}
@@ -149,6 +151,7 @@ demands = record {
   cut_off = cut_off;
   bytes_over = λ places file. (over_whole places file, λ (front, (over, (c, (e, (reads, some))))). rw e (over_refused places front over c reads some));
   number_stays = number_stays;
+  dated_read = dated_is_read;
   refused_list_kept = λ file held held' count count' n. list_kept (read_cycle (length held) file) held held' count count' n;
   refused_bytes_kept = bytes_kept;
   refused_places_kept = refused_kept;
@@ -209,6 +212,16 @@ demands = record {
   reads_back = reads_back;
   written_bytes = writes_bytes;
   writes_back = writes_back;
+  dated_reads_back = is_read;
+  dated_writes_back = λ file c small e. was_written file small (c, e);
+  in_force_first = in_force_first;
+  in_force_second = in_force_second;
+  in_force_numbers = in_force_numbers;
+  part_empty = part_empty;
+  part_reads = part_reads;
+  part_written = part_written;
+  either_order = either_order;
+  same_part = same_part;
   meter_answers_lem = same_answers;
   meter_budget = budget_kept;
   meter_holds = holds_few;

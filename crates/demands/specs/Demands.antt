@@ -36,7 +36,10 @@ use Rattle.normal.specs.Normal.{in_order, normal_form}
 use Rattle.normal.specs.Answers.{normalised, places_after}
 use Rattle.cost.specs.Prices.{charge, FirstBand, tenths, cents}
 use Rattle.cost.specs.Bills.{bill_at, plan_bill, cycle_bill}
-use Rattle.cyclefile.specs.File.{cycle_bytes, read_cycle, write_number, Reads, bytes_after, AreBytes, Words}
+use Rattle.cyclefile.specs.File.{bytes_of, cycle_bytes, read_cycle, write_number, Reads, bytes_after, AreBytes, Words}
+use Rattle.dated.specs.declared.InForce.{InForce}
+use Rattle.dated.specs.declared.InForce.TheVariants.{First, Second}
+use Rattle.dated.specs.InForce.{issue_day, read_dated, in_force, part_in_force, Readable, swapped}
 use Rattle.meter.specs.declared.Meter.{Meter}
 use Rattle.meter.specs.Plain.{Report, records_at, ending_with, plain_answers, accepted_onto}
 use Rattle.meter.specs.Ring.{fresh, stepped, meter_answers, meter_after}
@@ -90,6 +93,8 @@ pub record Demands : Type 0 where
       ↔ ((front : List ℕ) × ((over : List ℕ) × ((c : List Pair) × ((file ≡ front ++ over) × ((read_cycle places front ≡ Ok c) × (0 < length over))))))
   -- a number other than 18 stays, whatever bytes follow: a file with a wrong pair and bytes over gets the pair's number
   pub number_stays : (places : ℕ) (file more : List ℕ) (n : ℕ) → read_cycle places file ≡ Err n → ¬ (n ≡ 18) → read_cycle places (file ++ more) ≡ Err n
+  -- a dated file (document 02, Req 13) is judged with 512 places, so that it never gets 20
+  pub dated_read : (file : List ℕ) → Readable file ⊎ ((n : ℕ) × (read_dated file ≡ Err n) × ((n ≡ 12) ⊎ (((17 ≤ n) × (n ≤ 19)) ⊎ (n ≡ 21))))
   pub refused_list_kept : (file : List ℕ) (held held' : List Pair) (count count' n : ℕ)
       → Reads (read_cycle (length held) file) held count n held' count' → 0 < n → (held' ≡ held) × (count' ≡ count)
   pub refused_bytes_kept : (c : List Pair) (held : List ℕ)
@@ -231,6 +236,29 @@ pub record Demands : Type 0 where
   pub written_bytes : (c : List Pair) → length c ≤ 512 → Words c → AreBytes (cycle_bytes c)
   -- a file that is read is the one that the writer makes of its contents
   pub writes_back : (places : ℕ) (file : List ℕ) (c : List Pair) → AreBytes file → read_cycle places file ≡ Ok c → cycle_bytes c ≡ file
+  -- Which file is in force (document 02, Req 13). An issue day before a written cycle's file reads back as both; and a dated file that is read is
+  -- its day before the file that the writer makes of its contents.
+  pub dated_reads_back : (day : ℕ) (c : List Pair) → 1 ≤ length c → length c ≤ 512
+      → (issue_day (bytes_of day ++ cycle_bytes c) ≡ day) × (read_dated (bytes_of day ++ cycle_bytes c) ≡ Ok c)
+  pub dated_writes_back : (file : List ℕ) (c : List Pair) → AreBytes file → read_dated file ≡ Ok c → bytes_of (issue_day file) ++ cycle_bytes c ≡ file
+  -- The first file is told exactly where it can be read, and the second can't, or has an earlier day, or is equal to it; the second exactly
+  -- where it can be read, and the first can't, or has an earlier day.
+  pub in_force_first : (a b : List ℕ) → (in_force a b ≡ Ok First) ↔ (Readable a × (¬ (Readable b) ⊎ ((issue_day b < issue_day a) ⊎ (a ≡ b))))
+  pub in_force_second : (a b : List ℕ) → (in_force a b ≡ Ok Second) ↔ (Readable b × (¬ (Readable a) ⊎ (issue_day a < issue_day b)))
+  -- 29 is given exactly where both can be read, have the same day and differ; any other number exactly where neither can be read, and it is
+  -- the first file's
+  pub in_force_numbers : (a b : List ℕ) (n : ℕ)
+      → (in_force a b ≡ Err n)
+      ↔ (((read_dated a ≡ Err n) × ¬ (Readable b)) ⊎ ((n ≡ 29) × Readable a × Readable b × (issue_day a ≡ issue_day b) × ¬ (a ≡ b)))
+  -- the part handed back is empty exactly at a refusal, reads as a cycle exactly when a file is told,
+  pub part_empty : (a b : List ℕ) → (part_in_force a b ≡ []) ↔ ((n : ℕ) × (in_force a b ≡ Err n))
+  pub part_reads : (a b : List ℕ) → ((c : List Pair) × (read_cycle 512 (part_in_force a b) ≡ Ok c)) ↔ ((w : InForce) × (in_force a b ≡ Ok w))
+  -- and then it is the file that the writer makes of its contents
+  pub part_written : (a b : List ℕ) (c : List Pair) → AreBytes a → AreBytes b → read_cycle 512 (part_in_force a b) ≡ Ok c → cycle_bytes c ≡ part_in_force a b
+  -- The order of the two files matters only where they are equal or both unreadable: else the same file is told, or the same number. To the bytes of
+  -- the part it never matters.
+  pub either_order : (a b : List ℕ) → ¬ (a ≡ b) → Readable a ⊎ Readable b → in_force b a ≡ swapped (in_force a b)
+  pub same_part : (a b : List ℕ) → part_in_force b a ≡ part_in_force a b
   -- A budget meter in the box (document 02, Req 03). For every list of offers to a fresh meter of an accepted specification, each answer, its
   -- number and its budget left, is the plain machine's.
   pub meter_answers_lem : (s : Spec) (offers : List Report) → IsAccepted s → meter_answers (fresh s) offers ≡ plain_answers s [] offers
