@@ -3,12 +3,14 @@
  * words what it found.
  *
  *     loader SPECIFICATION CYCLE [MINUTES]
+ *     loader --dated SPECIFICATION FIRST SECOND [MINUTES]
  *
  * With MINUTES, a decimal number, each report may arrive up to so many minutes
- * late.
+ * late. With --dated the cycle is that of the file in force of two dated ones; which
+ * one that is is told first, where there is one.
  *
  * Exit status: 0 the cycle obeys the specification; 1 it is refused; 2 wrong
- * usage, or a file that cannot be read.
+ * usage, or a file that the system does not hand over.
  *
  * Build: cc -std=c11 -I include loader/loader.c target/staticlib/libmaxeltu.a -o loader
  */
@@ -27,7 +29,7 @@ struct bytes {
     size_t length;
 };
 
-/* What a refusal means, for a person. Only numbers that maxeltu_verdict and maxeltu_check_late answer. */
+/* What a refusal means, for a person. Only numbers that maxeltu_verdict, maxeltu_check_late and maxeltu_in_force answer. */
 static const char *words(uint32_t refusal)
 {
     switch (refusal) {
@@ -61,6 +63,8 @@ static const char *words(uint32_t refusal)
         return "the cycle file repeats a field that should be left out";
     case MAXELTU_BYTES_OVER:
         return "the cycle file has bytes after the last pair: write to the carrier";
+    case MAXELTU_SAME_DAY:
+        return "the two cycle files have the same issue day and differ: write to the carrier";
     default:
         return "no meaning known to this loader";
     }
@@ -109,13 +113,13 @@ static bool read_minutes(const char *text, uint32_t *minutes)
 
 /* As maxeltu_verdict, for reports that may arrive late. The specification is judged before the cycle's file is read: of no pairs the
  * check answers MAXELTU_COUNT, unless the specification or the lateness is refused. */
-static uint32_t late_verdict(const struct bytes *spec, const struct bytes *cycle, uint32_t minutes)
+static uint32_t late_verdict(const struct bytes *spec, struct maxeltu_bytes cycle, uint32_t minutes)
 {
     struct maxeltu_pair pairs[MAXELTU_MAX_PAIRS] = { { 0, 0 } };
     uint32_t count, refusal = maxeltu_check_late(spec->at, spec->length, pairs, 0, minutes);
     if (refusal != MAXELTU_COUNT)
         return refusal;
-    refusal = maxeltu_read_cycle(cycle->at, cycle->length, pairs, MAXELTU_MAX_PAIRS, &count);
+    refusal = maxeltu_read_cycle(cycle.at, cycle.length, pairs, MAXELTU_MAX_PAIRS, &count);
     return refusal ? refusal : maxeltu_check_late(spec->at, spec->length, pairs, count, minutes);
 }
 
@@ -143,17 +147,52 @@ static int tell_late(uint32_t refusal, uint32_t minutes)
     return EXIT_REFUSED;
 }
 
+/* Judges a cycle's file. With minutes, 0 too, the answer is told in the words for late reports: so null stands for none. */
+static int judge(const struct bytes *spec, struct maxeltu_bytes cycle, const uint32_t *minutes)
+{
+    if (minutes)
+        return tell_late(late_verdict(spec, cycle, *minutes), *minutes);
+    return tell(maxeltu_verdict(spec->at, spec->length, cycle.at, cycle.length));
+}
+
+/* Judges the cycle of the file in force. Which that is is asked before the specification is judged: it hangs on the two files alone. */
+static int judge_dated(const struct bytes *spec, const struct bytes *first, const struct bytes *second, const uint32_t *minutes)
+{
+    uint32_t which, refusal = maxeltu_in_force(first->at, first->length, second->at, second->length, &which);
+    if (refusal == MAXELTU_OK) {
+        printf("the %s file is in force: ", which == 1 ? "first" : "second");
+        return judge(spec, maxeltu_part_in_force(first->at, first->length, second->at, second->length), minutes);
+    }
+    /* 29 is of both files. Every other number is the first one's, as neither can be read. */
+    if (refusal != MAXELTU_SAME_DAY)
+        fputs("neither file can be read; of the first: ", stdout);
+    return tell(refusal);
+}
+
+/* Reads the files of these names; complains and answers nonzero where one fails. */
+static int read_files(char **names, int count, struct bytes *files)
+{
+    int read = 0;
+    while (read < count && !read_file(names[read], &files[read]))
+        read++;
+    return read < count;
+}
+
 int main(int argc, char **argv)
 {
-    struct bytes spec = { NULL, 0 }, cycle = { NULL, 0 };
-    uint32_t minutes = 0;
+    struct bytes files[3] = { { NULL, 0 }, { NULL, 0 }, { NULL, 0 } }; /* the specification, the cycle or two dated ones */
+    bool dated = argc > 1 && strcmp(argv[1], "--dated") == 0;
+    int first = dated ? 2 : 1, count = dated ? 3 : 2, end = first + count;
+    uint32_t minutes = 0, *late = argc == end + 1 ? &minutes : NULL;
     int status = EXIT_UNREADABLE;
-    if (argc < 3 || argc > 4 || (argc == 4 && !read_minutes(argv[3], &minutes)))
-        fprintf(stderr, "usage: loader SPECIFICATION CYCLE [MINUTES]\n");
-    else if (!read_file(argv[1], &spec) && !read_file(argv[2], &cycle))
-        status = argc == 4 ? tell_late(late_verdict(&spec, &cycle, minutes), minutes)
-                           : tell(maxeltu_verdict(spec.at, spec.length, cycle.at, cycle.length));
-    free(spec.at);
-    free(cycle.at);
+    if (argc != end && !(late && read_minutes(argv[end], late)))
+        fputs("usage: loader SPECIFICATION CYCLE [MINUTES]\n"
+              "       loader --dated SPECIFICATION FIRST SECOND [MINUTES]\n",
+              stderr);
+    else if (!read_files(argv + first, count, files))
+        status = dated ? judge_dated(&files[0], &files[1], &files[2], late)
+                       : judge(&files[0], (struct maxeltu_bytes){ files[1].at, files[1].length }, late);
+    for (int i = 0; i < 3; i++)
+        free(files[i].at);
     return status;
 }

@@ -4,6 +4,7 @@
 
 use consistency::Unfit;
 use cost::Bill;
+use dated::InForce;
 use families::{Family, Scheduled};
 use meter::Meter;
 use pairs::Pair;
@@ -397,6 +398,36 @@ fn normal_forms(rt: &impl Print) -> io::Result<()> {
     normal_form(rt, &[pair(30, 4), c, pair(15, 8)], 3)
 }
 
+// Which of two dated files is in force, and the bytes of its cycle part.
+fn in_force(rt: &impl Print, first: &[u8], second: &[u8]) -> io::Result<()> {
+    match dated::in_force(first, second) {
+        Ok(InForce::First) => print!(rt; "  the first, part")?,
+        Ok(InForce::Second) => print!(rt; "  the second, part")?,
+        Err(refusal) => print!(rt; "  refused {}, part", refusal.number())?,
+    }
+    for byte in dated::part_in_force(first, second) {
+        print!(rt; " {}", byte)?;
+    }
+    println!(rt)
+}
+
+// The files of samples/*.dated: the later day, whose second byte is the lower one; equal files, and others of one day; a file that can't be
+// read beside one that can; two that can't.
+fn dated_files(rt: &impl Print) -> io::Result<()> {
+    println!(rt; "Which file is in force")?;
+    let good = [0, 255, 0, 2, 3, 0, 5, 0, 3, 2, 0, 2];
+    let full = [1, 0, 0, 4, 3, 0, 5, 0, 3, 0, 2, 0, 2, 0];
+    let thin = [1, 0, 0, 4, 3, 0, 5, 0, 2, 0, 0, 2, 0, 3];
+    let over = [1, 1, 0, 2, 3, 0, 5, 0, 3, 2, 0, 2, 0];
+    in_force(rt, &good, &full)?;
+    in_force(rt, &full, &good)?;
+    in_force(rt, &good, &good)?;
+    in_force(rt, &full, &thin)?;
+    in_force(rt, &over, &good)?;
+    in_force(rt, &over, &[1])?;
+    in_force(rt, &[1], &over)
+}
+
 fn main(rt: HostRuntime) -> io::Result<()> {
     sample_a(&rt)?;
     sample_a_with_28(&rt)?;
@@ -407,5 +438,6 @@ fn main(rt: HostRuntime) -> io::Result<()> {
     two_shifts(&rt)?;
     ranges_that_touch(&rt)?;
     late_reports(&rt)?;
-    normal_forms(&rt)
+    normal_forms(&rt)?;
+    dated_files(&rt)
 }
