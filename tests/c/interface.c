@@ -1,5 +1,5 @@
 /*
- * The twenty-two calls from C, through include/maxeltu.h: the samples, every
+ * The twenty-three calls from C, through include/maxeltu.h: the samples, every
  * refusal of every call, and the places that a call must leave as they were.
  *
  * Prints a line for each group, whose name starts with the argument if there is
@@ -1057,6 +1057,168 @@ static void refusals_of_normal_forms(void)
     end();
 }
 
+/* ---- which of two dated files is in force ---- */
+
+#define FILE_OF(...) ((struct maxeltu_bytes){ BYTES(__VA_ARGS__) })
+
+/* Which one it is comes to the first place. */
+static uint32_t in_force(struct maxeltu_bytes first, struct maxeltu_bytes second)
+{
+    fill_places();
+    return maxeltu_in_force(first.at, first.length, second.at, second.length, &places[0]);
+}
+
+static struct maxeltu_bytes part_in_force(struct maxeltu_bytes first, struct maxeltu_bytes second)
+{
+    return maxeltu_part_in_force(first.at, first.length, second.at, second.length);
+}
+
+/* The part is the bytes of the very file, past its day, and is read. */
+static bool is_part_of(struct maxeltu_bytes part, struct maxeltu_bytes file)
+{
+    uint32_t count;
+    return part.at == file.at + 2 && part.length == file.length - 2
+        && maxeltu_read_cycle(part.at, part.length, pairs, MAXELTU_MAX_PAIRS, &count) == MAXELTU_OK;
+}
+
+static bool first_in_force(struct maxeltu_bytes first, struct maxeltu_bytes second)
+{
+    return in_force(first, second) == MAXELTU_OK && hold(1, 1) && is_part_of(part_in_force(first, second), first);
+}
+
+static bool second_in_force(struct maxeltu_bytes first, struct maxeltu_bytes second)
+{
+    return in_force(first, second) == MAXELTU_OK && hold(1, 2) && is_part_of(part_in_force(first, second), second);
+}
+
+/* Either way round the same file, which the other is not equal to. */
+static bool beats(struct maxeltu_bytes file, struct maxeltu_bytes other)
+{
+    return first_in_force(file, other) && second_in_force(other, file);
+}
+
+static bool none_in_force(uint32_t refusal, struct maxeltu_bytes first, struct maxeltu_bytes second)
+{
+    struct maxeltu_bytes part = part_in_force(first, second);
+    return in_force(first, second) == refusal && untouched() && part.length == 0 && part.at == first.at;
+}
+
+/* The files of samples/, and which of them the loader then judges. */
+static void samples_of_dated_files(void)
+{
+    begin("dated files: samples");
+    struct spec_file b15 = sample_b(15);
+    struct maxeltu_bytes good = FILE_OF(0, 255, 0, 2, 3, 0, 5, 0, 3, 2, 0, 2), over = FILE_OF(1, 1, 0, 2, 3, 0, 5, 0, 3, 2, 0, 2, 0);
+    struct maxeltu_bytes full = FILE_OF(1, 0, 0, 4, 3, 0, 5, 0, 3, 0, 2, 0, 2, 0), no_day = FILE_OF(1);
+    struct maxeltu_bytes thin = FILE_OF(1, 0, 0, 4, 3, 0, 5, 0, 2, 0, 0, 2, 0, 3);
+    CHECK(first_in_force(good, good) && first_in_force(full, full) && first_in_force(thin, thin));
+    CHECK(beats(full, good) && beats(thin, good));
+    CHECK(none_in_force(MAXELTU_SAME_DAY, full, thin) && none_in_force(MAXELTU_SAME_DAY, thin, full));
+    CHECK(beats(good, over) && beats(full, over) && beats(thin, over));
+    CHECK(beats(good, no_day) && beats(full, no_day) && beats(thin, no_day));
+    CHECK(none_in_force(MAXELTU_BYTES_OVER, over, no_day) && none_in_force(MAXELTU_FILE_CUT, no_day, over));
+    CHECK(none_in_force(MAXELTU_BYTES_OVER, over, over) && none_in_force(MAXELTU_FILE_CUT, no_day, no_day));
+    struct maxeltu_bytes part = part_in_force(good, full);
+    CHECK(maxeltu_verdict(SPEC(b15), part.at, part.length) == MAXELTU_TOO_FULL);
+    part = part_in_force(thin, good);
+    CHECK(maxeltu_verdict(SPEC(b15), part.at, part.length) == MAXELTU_TOO_THIN);
+    part = part_in_force(over, good);
+    CHECK(maxeltu_verdict(SPEC(b15), part.at, part.length) == MAXELTU_OK);
+    end();
+}
+
+/* A file of one pair, issued on this day. */
+struct dated {
+    uint8_t bytes[9];
+};
+
+static struct dated dated(unsigned day, uint8_t gap, uint8_t size)
+{
+    return (struct dated){ { (uint8_t)(day >> 8), (uint8_t)day, 0, 1, 3, 0, gap, 0, size } };
+}
+
+#define DATED(d) ((struct maxeltu_bytes){ (d).bytes, sizeof (d).bytes })
+
+static void days_of_dated_files(void)
+{
+    begin("dated files: the later day, and the same");
+    static const unsigned days[] = { 0, 1, 2, 255, 256, 257, 511, 512, 32767, 32768, 40000, 65534, 65535 };
+    for (size_t i = 0; i < sizeof days / sizeof *days; i++) {
+        struct dated one = dated(days[i], 5, 2), equal = one, other = dated(days[i], 5, 3), longer_gap = dated(days[i], 6, 2);
+        CHECK(first_in_force(DATED(one), DATED(equal)) && first_in_force(DATED(equal), DATED(one)));
+        CHECK(none_in_force(MAXELTU_SAME_DAY, DATED(one), DATED(other)) && none_in_force(MAXELTU_SAME_DAY, DATED(other), DATED(one)));
+        CHECK(none_in_force(MAXELTU_SAME_DAY, DATED(one), DATED(longer_gap)));
+        for (size_t e = 0; e < i; e++) {
+            struct dated earlier = dated(days[e], 5, 2);
+            CHECK(beats(DATED(one), DATED(earlier)) && beats(DATED(other), DATED(earlier)));
+        }
+    }
+    /* The same run of reports in another file. */
+    CHECK(none_in_force(MAXELTU_SAME_DAY, FILE_OF(0, 7, 0, 1, 3, 0, 5, 0, 2), FILE_OF(0, 7, 0, 2, 3, 0, 5, 0, 2, 0)));
+    end();
+}
+
+/* Whatever their days are. */
+static void refusals_of_dated_files(void)
+{
+    begin("dated files: what cannot be read");
+    const struct {
+        uint32_t refusal;
+        struct maxeltu_bytes file;
+    } rows[] = {
+        { MAXELTU_COUNT, { BYTES(255, 255, 0, 0) } },
+        { MAXELTU_COUNT, { BYTES(0, 0, 2, 1, 3, 0, 5, 0, 2) } },
+        { MAXELTU_PAIR_MAP, { BYTES(255, 255, 0, 1, 7, 0, 5, 0, 2) } },
+        { MAXELTU_FILE_CUT, { BYTES(0, 255, 0, 1, 3, 0, 5, 0) } },
+        { MAXELTU_FILE_CUT, { BYTES(255, 255, 0) } },
+        { MAXELTU_FILE_CUT, { BYTES(0, 0) } },
+        { MAXELTU_FILE_CUT, { BYTES(255) } },
+        { MAXELTU_FILE_CUT, { (const uint8_t[]){ 0 }, 0 } },
+        { MAXELTU_FIELD_REPEATED, { BYTES(1, 0, 0, 2, 3, 0, 5, 0, 2, 2, 0, 2) } },
+        { MAXELTU_BYTES_OVER, { BYTES(255, 255, 0, 1, 3, 0, 5, 0, 2, 0) } },
+    };
+    struct dated day_0 = dated(0, 5, 2), last_day = dated(65535, 5, 2);
+    for (size_t i = 0; i < sizeof rows / sizeof *rows; i++) {
+        CHECK(beats(DATED(day_0), rows[i].file) && beats(DATED(last_day), rows[i].file));
+        for (size_t other = 0; other < sizeof rows / sizeof *rows; other++)
+            CHECK(none_in_force(rows[i].refusal, rows[i].file, rows[other].file));
+    }
+    end();
+}
+
+/* Both places may be one, or lie over each other: they are only read. */
+static void dated_files_in_one_place(void)
+{
+    begin("dated files: in one place, and the longest");
+    static const uint8_t lent_twice[] = { 0, 7, 0, 1, 3, 0, 5, 0, 2, 0 };
+    struct maxeltu_bytes cut = { lent_twice, sizeof lent_twice - 2 }, over = { lent_twice, sizeof lent_twice };
+    struct maxeltu_bytes whole = { lent_twice, sizeof lent_twice - 1 };
+    CHECK(first_in_force(whole, whole) && beats(whole, cut) && beats(whole, over));
+    CHECK(none_in_force(MAXELTU_FILE_CUT, cut, over) && none_in_force(MAXELTU_BYTES_OVER, over, cut));
+    CHECK(none_in_force(MAXELTU_BYTES_OVER, over, over));
+    /* As many bytes over as 16 bits cannot count. */
+    static uint8_t long_file[65536 + sizeof lent_twice - 1];
+    memcpy(long_file, lent_twice, sizeof lent_twice);
+    over = (struct maxeltu_bytes){ long_file, sizeof long_file };
+    CHECK(beats(whole, over) && none_in_force(MAXELTU_BYTES_OVER, over, over));
+    /* 512 pairs that leave no field out, and a place for one more. */
+    static uint8_t longest[2 + MAXELTU_MAX_CYCLE_FILE + 5], equal[sizeof longest];
+    longest[2] = 2;
+    for (size_t at = 4; at < sizeof longest; at += 5)
+        memcpy(longest + at, (const uint8_t[]){ 3, 0, (uint8_t)(at % 2), 0, (uint8_t)(at % 2) }, 5);
+    memcpy(equal, longest, sizeof equal);
+    struct maxeltu_bytes file = { longest, sizeof longest - 5 }, other = { equal, sizeof equal - 5 };
+    CHECK(first_in_force(file, other) && first_in_force(other, file));
+    equal[other.length - 1] = 9;
+    CHECK(none_in_force(MAXELTU_SAME_DAY, file, other) && none_in_force(MAXELTU_SAME_DAY, other, file));
+    equal[1] = 1;
+    CHECK(beats(other, file));
+    equal[3] = 1;
+    other.length = sizeof equal;
+    CHECK(beats(file, other) && none_in_force(MAXELTU_COUNT, other, other));
+    end();
+}
+
 /* ---- meters ---- */
 
 /* A meter for this specification, made over bytes that are not 0. */
@@ -1483,9 +1645,12 @@ static void null_for_empty(void)
     CHECK(maxeltu_normal_form(&(struct maxeltu_pair){ .gap = 5, .size = 2 }, 1, NULL, 0, &places[0]) == MAXELTU_NO_ROOM);
     CHECK(maxeltu_read_cycle(NULL, 0, NULL, 0, &places[0]) == MAXELTU_FILE_CUT);
     CHECK(maxeltu_read_cycle(BYTES(0, 1, 3, 0, 5, 0, 2), NULL, 0, &places[0]) == MAXELTU_NO_ROOM);
+    CHECK(maxeltu_in_force(NULL, 0, NULL, 0, &places[0]) == MAXELTU_FILE_CUT);
+    CHECK(maxeltu_part_in_force(NULL, 0, NULL, 0).length == 0);
     CHECK(maxeltu_write_cycle(NULL, 0, file, sizeof file, &places[0]) == MAXELTU_COUNT);
     CHECK(maxeltu_write_cycle(&(struct maxeltu_pair){ .gap = 5, .size = 2 }, 1, NULL, 0, &places[0]) == MAXELTU_NO_ROOM);
     CHECK(untouched());
+    CHECK(beats(FILE_OF(0, 7, 0, 1, 3, 0, 5, 0, 2), (struct maxeltu_bytes){ NULL, 0 }));
     former = lent;
     CHECK(maxeltu_make_meter(NULL, 0, &lent.meter) == MAXELTU_SPEC_MAP && meter_untouched());
     CHECK(no_table(NULL, 0));
@@ -1518,6 +1683,10 @@ int main(int argc, char **argv)
     turns_of_normal_forms();
     long_normal_forms();
     refusals_of_normal_forms();
+    samples_of_dated_files();
+    days_of_dated_files();
+    refusals_of_dated_files();
+    dated_files_in_one_place();
     layout_of_a_meter();
     meter_of_two_ranges();
     sample_of_a_meter();

@@ -5,7 +5,8 @@
  *
  * Each must need less than two unpacked cycles, each of 1,024 16-bit words: then
  * none holds a cycle twice. A normal form is found with no copy of the cycle: it
- * must need less than a quarter of one.
+ * must need less than a quarter of one. Which of two dated files is in force is
+ * told with no pair stored: it must need less than an eighth.
  *
  * Prints a line for each call, and at the end 'N passed, M failed'. Exit status
  * 0 if none failed.
@@ -85,8 +86,10 @@ static const struct input inputs[] = {
     { MAXELTU_TOO_THIN, { 1, 9, 1, 20, 20000, 60, 20000, 60, 30, 40 }, 512, { 7, 5 } },
 };
 
-/* What the calls are lent: the input, as bytes and as pairs, and room to read and to write a cycle. */
+/* What the calls are lent: the input, as bytes and as pairs, also twice with an issue day before it, and room to read and to write a
+ * cycle. */
 static uint8_t spec_file[1 + 2 * 10], cycle_file[2 + 5 * (MAXELTU_MAX_PAIRS + 1)], bytes[MAXELTU_MAX_CYCLE_FILE];
+static uint8_t dated_files[2][2 + sizeof cycle_file];
 static struct maxeltu_pair pairs[MAXELTU_MAX_PAIRS + 1], places[MAXELTU_MAX_PAIRS];
 static size_t count, cycle_length;
 
@@ -113,6 +116,8 @@ static void lend(const struct input *input)
         at = put(put(at, pairs[i].gap), pairs[i].size);
     }
     cycle_length = (size_t)(at - cycle_file);
+    for (size_t i = 0; i < COUNT_OF(dated_files); i++)
+        memcpy(put(dated_files[i], 7), cycle_file, cycle_length);
 }
 
 /* ---- calls ---- */
@@ -126,6 +131,12 @@ static void check_late(void) { answer = maxeltu_check_late(spec_file, sizeof spe
 static void normal_form(void) { answer = maxeltu_normal_form(pairs, count, places, COUNT_OF(places), &number); }
 static void read_cycle(void) { answer = maxeltu_read_cycle(cycle_file, cycle_length, places, COUNT_OF(places), &number); }
 static void write_cycle(void) { answer = maxeltu_write_cycle(pairs, count, bytes, sizeof bytes, &number); }
+
+/* Equal files: both are read, and then compared to their ends. */
+static void in_force(void)
+{
+    answer = maxeltu_in_force(dated_files[0], 2 + cycle_length, dated_files[1], 2 + cycle_length, &number);
+}
 
 static void cycle_cost(void)
 {
@@ -226,6 +237,7 @@ int main(void)
         { "maxeltu_check_late", check_late, true, 2 * UNPACKED_CYCLE },
         { "maxeltu_cycle_cost", cycle_cost, true, 2 * UNPACKED_CYCLE },
         { "maxeltu_normal_form", normal_form, false, UNPACKED_CYCLE / 4 },
+        { "maxeltu_in_force", in_force, false, UNPACKED_CYCLE / 8 },
         { "maxeltu_read_cycle", read_cycle, false, 2 * UNPACKED_CYCLE },
         { "maxeltu_write_cycle", write_cycle, false, 2 * UNPACKED_CYCLE },
     };

@@ -399,7 +399,7 @@ fn cut_or_over_case(random: &mut Random, library: &mut Library) -> Verdict {
 }
 
 /// Spoils one pair of a sound file: its map byte, a field that should be left out, or a cut just there.
-fn stray_map(random: &mut Random, mut file: Vec<u8>) -> Vec<u8> {
+pub fn stray_map(random: &mut Random, mut file: Vec<u8>) -> Vec<u8> {
     let (mut at, mut before) = (2, None);
     let pairs = u64::from(file[0]) * 256 + u64::from(file[1]);
     for _ in 0..random.below(pairs + 1) {

@@ -2,6 +2,7 @@
 
 use crate::calls::{consistency_outcome, expected, listed};
 use crate::costs::billed;
+use crate::dated::{part_of, told};
 use crate::duty;
 use crate::group::Runner;
 use crate::late;
@@ -12,7 +13,7 @@ use reference::cost::{self, Cost};
 use reference::duty::Week;
 use reference::feasibility::{self, Failure};
 use reference::meter::{Machine, Report};
-use reference::{cycle, even, file, normal, spec, verdict, Kind, Pair, Plan, Spec};
+use reference::{cycle, dated, even, file, normal, spec, verdict, Kind, Pair, Plan, Spec};
 use std::fmt::Debug;
 use std::path::{Path, PathBuf};
 
@@ -369,6 +370,31 @@ impl Checks {
         let (one, other) = (pairs_of(one), pairs_of(other));
         let got = have_one_form(&one, &other, &mut self.library);
         self.both(&format!("{name}, one run"), got, are_one_run(&one, &other), wanted);
+    }
+
+    /// Which of two dated files is in force, 1 or 2, and its cycle part; or the refusal. What is refused rightly is refused again where
+    /// nothing can be written, and a file beside itself gets the same answer where both are one.
+    pub fn in_force(&mut self, name: &str, first: &[u8], second: &[u8], wanted: Result<u32, u32>) {
+        let text = format!("{name}, file in force");
+        let got = self.library.in_force(first, second, [HELD]);
+        let (reference, wanted) = (told(dated::in_force(first, second), HELD), told(wanted, HELD));
+        self.both(&text, got, reference, wanted);
+        self.both(&text, part_of(got, first, second), dated::part(first, second), part_of(wanted, first, second));
+        if first == second {
+            let of_one = self.library.in_force_of_one(first, [HELD]);
+            self.holds(format!("library, {text}, of one file: {of_one:?}"), of_one == wanted);
+        }
+        if wanted.answer != 0 && got == wanted {
+            let again = self.library.refused_in_force(first, second);
+            self.holds(format!("library, {text}, again: {again}"), again == wanted.answer);
+        }
+    }
+
+    /// The same of a file, first and second, beside one of so many bytes that most of them cannot be touched.
+    pub fn in_force_beside_many(&mut self, name: &str, file: &[u8], bytes: &[u8], length: usize, wanted: [Result<u32, u32>; 2]) {
+        let got = self.library.in_force_beside_many(file, bytes, length, [HELD]);
+        let wanted = wanted.map(|made| told(made, HELD));
+        self.holds(format!("library, {name}, beside {length} bytes: {got:?}, not {wanted:?}"), got == wanted);
     }
 
     /// The file of a cycle, written into so many bytes; or the refusal. Other bytes stay as they are.

@@ -1,4 +1,4 @@
-//! The twenty-two calls of include/maxeltu.h, each wrapped so that its answer can be compared whole: every place that it was lent
+//! The twenty-three calls of include/maxeltu.h, each wrapped so that its answer can be compared whole: every place that it was lent
 //! is handed back with what it holds afterwards, and what it should only have read is looked at again.
 
 use crate::fence::{first_in_reach, out_of_reach, Fence};
@@ -24,6 +24,7 @@ extern "C" {
     fn maxeltu_normal_form(pairs: *const Pair, count: usize, normal: *mut Pair, places: usize, normal_count: *mut u32) -> u32;
     fn maxeltu_read_cycle(file: *const u8, file_len: usize, pairs: *mut Pair, places: usize, count: *mut u32) -> u32;
     fn maxeltu_write_cycle(pairs: *const Pair, count: usize, file: *mut u8, room: usize, written: *mut u32) -> u32;
+    fn maxeltu_in_force(first: *const u8, first_len: usize, second: *const u8, second_len: usize, which: *mut u32) -> u32;
     fn maxeltu_make_meter(spec: *const u8, spec_len: usize, meter: *mut Meter) -> u32;
     fn maxeltu_offer(meter: *mut Meter, minute: u32, size: u32, left: *mut u32) -> u32;
     fn maxeltu_week_table(table: *const u16, numbers: usize) -> u32;
@@ -45,6 +46,7 @@ pub type Billed = Outcome<2, u64>;
 pub struct Library {
     spec: Fence<u8>,
     file: Fence<u8>,
+    second: Fence<u8>,
     pairs: Fence<Pair>,
     normal: Fence<Pair>,
     number: Fence<u32>,
@@ -84,6 +86,14 @@ fn lend_spec(file: &mut Fence<u8>, spec: &[u8], call: impl FnOnce(*const u8, usi
     answer
 }
 
+/// The same of two dated files.
+fn lend_dated(lent: [&mut Fence<u8>; 2], files: [&[u8]; 2], call: impl FnOnce(*const u8, *const u8) -> u32) -> u32 {
+    let [first, second] = lent;
+    let answer = call(first.lend(files[0]), second.lend(files[1]));
+    assert_eq!([first.held(files[0].len()), second.held(files[1].len())], files, "dated files that were only to be read");
+    answer
+}
+
 /// The same of a cycle. More pairs than one can have lie where nothing can be read.
 fn lend_cycle(list: &mut Fence<Pair>, pairs: &[Pair], call: impl FnOnce(*const Pair) -> u32) -> u32 {
     let answer = if pairs.len() > 512 { list.hidden(pairs, |at| call(at)) } else { call(list.lend(pairs)) };
@@ -103,12 +113,13 @@ fn lend_table(list: &mut Fence<u16>, table: &[u16], call: impl FnOnce(*const u16
 const PAGES: usize = 20;
 
 // SAFETY, for every call below: each pointer leads to as many items as the length beside it says, or to one number; none is
-// null, and no two overlap.
+// null, and no two overlap, but for the two files of in_force_of_one, which are only read.
 impl Library {
     pub fn new() -> Library {
         Library {
             spec: Fence::new(PAGES),
             file: Fence::new(PAGES),
+            second: Fence::new(PAGES),
             pairs: Fence::new(PAGES),
             normal: Fence::new(PAGES),
             number: Fence::new(1),
@@ -319,6 +330,47 @@ impl Library {
             maxeltu_write_cycle(list, pairs.len(), lent, before.len(), &mut written)
         });
         (Outcome { answer, places: [written] }, self.file.held(before.len()).to_vec())
+    }
+
+    /// The place is the file in force, 1 or 2.
+    pub fn in_force(&mut self, first: &[u8], second: &[u8], before: [u32; 1]) -> Outcome<1> {
+        let Library { file, second: other, number, .. } = self;
+        let which = number.lend(&before);
+        let answer = lend_dated([file, other], [first, second], |one, other| unsafe {
+            maxeltu_in_force(one, first.len(), other, second.len(), which)
+        });
+        Outcome { answer, places: [self.number.held(1)[0]] }
+    }
+
+    /// The same of one file, lent as both.
+    pub fn in_force_of_one(&mut self, file: &[u8], before: [u32; 1]) -> Outcome<1> {
+        let (lent, which) = (self.file.lend(file), self.number.lend(&before));
+        let answer = unsafe { maxeltu_in_force(lent, file.len(), lent, file.len(), which) };
+        assert_eq!(self.file.held(file.len()), file, "a dated file that was only to be read");
+        Outcome { answer, places: [self.number.held(1)[0]] }
+    }
+
+    /// Two files of which none is in force: the file that is has a place where nothing can be written.
+    pub fn refused_in_force(&mut self, first: &[u8], second: &[u8]) -> u32 {
+        let Library { file, second: other, number, .. } = self;
+        lend_dated([file, other], [first, second], |one, other| {
+            number.sealed(&[0], |which| unsafe { maxeltu_in_force(one, first.len(), other, second.len(), which) })
+        })
+    }
+
+    /// The same as `in_force` beside a file of so many bytes that only the first of them, which are these, can be touched: that one second,
+    /// and first.
+    pub fn in_force_beside_many(&mut self, file: &[u8], bytes: &[u8], length: usize, before: [u32; 1]) -> [Outcome<1>; 2] {
+        let (lent, number) = (self.file.lend(file), &mut self.number);
+        let mut ask = |first, first_len, second, second_len| {
+            let answer = unsafe { maxeltu_in_force(first, first_len, second, second_len, number.lend(&before)) };
+            Outcome { answer, places: [number.held(1)[0]] }
+        };
+        let (got, held) =
+            first_in_reach(bytes, length, |many| [ask(lent, file.len(), many, length), ask(many, length, lent, file.len())]);
+        assert_eq!(held, bytes, "a dated file that was only to be read");
+        assert_eq!(self.file.held(file.len()), file, "a dated file that was only to be read");
+        got
     }
 
     /// The meter comes back as the call leaves it.

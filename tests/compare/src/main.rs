@@ -10,6 +10,8 @@
 mod calls;
 mod checks;
 mod costs;
+mod dated;
+mod dated_edges;
 mod duty;
 mod duty_edges;
 mod duty_plans;
@@ -61,6 +63,7 @@ fn main() {
             late_edges::all(&mut runner);
             duty_edges::all(&mut runner);
             normal_edges::all(&mut runner);
+            dated_edges::all(&mut runner);
             calls::reference_itself(&mut runner);
             exhaustive::all(&mut runner);
             calls::all(&mut runner);
@@ -71,6 +74,7 @@ fn main() {
             duty::all(&mut runner);
             duty_plans::all(&mut runner);
             normal::all(&mut runner);
+            dated::all(&mut runner);
             meters::all(&mut runner);
         }
         ["evenplan", program] => program::all(&mut runner, program.as_ref()),

@@ -221,7 +221,7 @@ fn two_near(random: &mut Random) -> (Vec<Pair>, Vec<Pair>) {
 }
 
 /// Of so many refusals one is asked for again: to shut memory and open it takes longer than the call.
-const AGAIN: u64 = 30;
+pub const AGAIN: u64 = 30;
 
 /// It counts as 100 where the form is shorter than the cycle, and as 200 where the places are also fewer than the cycle has pairs.
 fn form_case(random: &mut Random, library: &mut Library) -> Verdict {

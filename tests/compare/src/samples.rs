@@ -1,9 +1,10 @@
 //! The samples of document 01, starred or not, through the library and through the reference, and the files in samples/. The sizes of
 //! even plans are those of document 02, Req 02, the meter is that of Req 03, the van of two shifts that of Req 06, the prices are those
 //! of Req 08, the reports that arrive late those of Req 09, the first report that may be thinner that of Req 10, the week table is that of
-//! Req 11, and the normal forms are those of Req 12.
+//! Req 11, the normal forms are those of Req 12, and the dated files those of Req 13.
 
 use crate::checks::{self, both_rates, demand_only, pairs_of, with_second, Checks, Offer};
+use crate::dated::dated;
 use crate::group::Runner;
 use reference::feasibility::Failure::{Inconsistent, Refused};
 use reference::{cycle, even, file, schedule, spec, Pair, Plan, Spec};
@@ -59,6 +60,7 @@ pub fn all(runner: &mut Runner) {
     checks::group(runner, "samples of meters", meters);
     checks::group(runner, "sample of a week table", duty_hours);
     checks::group(runner, "samples of cycles, their normal forms", normal_forms);
+    checks::group(runner, "samples of dated files, which of two is in force", dated_files);
 }
 
 /// Samples A and B with 15, by the reports that document 01 names and the sizes of document 02, Req 02.
@@ -238,6 +240,34 @@ fn normal_forms(checks: &mut Checks) {
         }
         for (other, others) in rows {
             checks.one_run(&format!("{name} and {other}"), &pairs, &pairs_in(other), form == others);
+        }
+    }
+}
+
+/// The dated files in samples/: an issue day and a cycle file that is there too, or too few bytes for a day. Each beside each.
+fn dated_files(checks: &mut Checks) {
+    let bytes = |name: &str| std::fs::read(checks::sample(name)).expect(name);
+    let parts = [
+        ("day255-good.dated", 255, "b15-good.cycle"),
+        ("day256-full.dated", 256, "b15-full.cycle"),
+        ("day256-thin.dated", 256, "b15-thin.cycle"),
+        ("day257-over.dated", 257, "bad-over.cycle"),
+    ];
+    for (name, day, part) in parts {
+        checks.file(name, &dated(day, &bytes(part)));
+    }
+    checks.file("bad-day.dated", &[1]);
+    let names = ["day255-good.dated", "day256-full.dated", "day256-thin.dated", "day257-over.dated", "bad-day.dated"];
+    let wanted = [
+        [Ok(1), Ok(2), Ok(2), Ok(1), Ok(1)],
+        [Ok(1), Ok(1), Err(29), Ok(1), Ok(1)],
+        [Ok(1), Err(29), Ok(1), Ok(1), Ok(1)],
+        [Ok(2), Ok(2), Ok(2), Err(21), Err(21)],
+        [Ok(2), Ok(2), Ok(2), Err(18), Err(18)],
+    ];
+    for (first, row) in names.into_iter().zip(wanted) {
+        for (second, wanted) in names.into_iter().zip(row) {
+            checks.in_force(&format!("{first} and {second}"), &bytes(first), &bytes(second), wanted);
         }
     }
 }

@@ -7,6 +7,7 @@
 
 pub mod cost;
 pub mod cycle;
+pub mod dated;
 pub mod duty;
 pub mod even;
 pub mod feasibility;
