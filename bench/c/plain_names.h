@@ -1,6 +1,6 @@
 /*
  * Included before plain.c where it is linked beside the library: the same
- * twenty-two functions under names of their own.
+ * twenty-three functions under names of their own.
  */
 #define maxeltu_verdict plain_verdict
 #define maxeltu_consistency plain_consistency
@@ -19,6 +19,7 @@
 #define maxeltu_normal_form plain_normal_form
 #define maxeltu_read_cycle plain_read_cycle
 #define maxeltu_write_cycle plain_write_cycle
+#define maxeltu_in_force plain_in_force
 #define maxeltu_make_meter plain_make_meter
 #define maxeltu_offer plain_offer
 #define maxeltu_week_table plain_week_table

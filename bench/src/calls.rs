@@ -15,6 +15,7 @@ type CycleCost = unsafe extern "C" fn(*const u8, usize, *const Pair, usize, u32,
 type NormalForm = unsafe extern "C" fn(*const Pair, usize, *mut Pair, usize, *mut u32) -> u32;
 type ReadCycle = unsafe extern "C" fn(*const u8, usize, *mut Pair, usize, *mut u32) -> u32;
 type WriteCycle = unsafe extern "C" fn(*const Pair, usize, *mut u8, usize, *mut u32) -> u32;
+type InForce = unsafe extern "C" fn(*const u8, usize, *const u8, usize, *mut u32) -> u32;
 type MakeMeter = unsafe extern "C" fn(*const u8, usize, *mut Meter) -> u32;
 type Offer = unsafe extern "C" fn(*mut Meter, u32, u32, *mut u32) -> u32;
 type WeekTable = unsafe extern "C" fn(*const u16, usize) -> u32;
@@ -34,7 +35,8 @@ macro_rules! declare {
     (
         $verdict:ident $test:ident $even_plan:ident $report:ident $last_report:ident $nearest_report:ident $between:ident
         $plan_cost:ident $check_cycle:ident $check_late:ident $cycle_cost:ident $normal_form:ident $read_cycle:ident
-        $write_cycle:ident $make_meter:ident $offer:ident $week_table:ident $calendar_minute:ident $duty_minute:ident
+        $write_cycle:ident $in_force:ident $make_meter:ident $offer:ident $week_table:ident $calendar_minute:ident
+        $duty_minute:ident
     ) => {
         extern "C" {
             fn $verdict(spec: *const u8, spec_len: usize, cycle: *const u8, cycle_len: usize) -> u32;
@@ -51,6 +53,7 @@ macro_rules! declare {
             fn $normal_form(pairs: *const Pair, count: usize, normal: *mut Pair, places: usize, normal_count: *mut u32) -> u32;
             fn $read_cycle(file: *const u8, file_len: usize, pairs: *mut Pair, places: usize, count: *mut u32) -> u32;
             fn $write_cycle(pairs: *const Pair, count: usize, file: *mut u8, room: usize, written: *mut u32) -> u32;
+            fn $in_force(first: *const u8, first_len: usize, second: *const u8, second_len: usize, which: *mut u32) -> u32;
             fn $make_meter(spec: *const u8, spec_len: usize, meter: *mut Meter) -> u32;
             fn $offer(meter: *mut Meter, minute: u32, size: u32, left: *mut u32) -> u32;
             fn $week_table(table: *const u16, numbers: usize) -> u32;
@@ -63,12 +66,14 @@ macro_rules! declare {
 declare!(
     maxeltu_verdict maxeltu_test maxeltu_even_plan maxeltu_report maxeltu_last_report maxeltu_nearest_report maxeltu_between
     maxeltu_plan_cost maxeltu_check_cycle maxeltu_check_late maxeltu_cycle_cost maxeltu_normal_form maxeltu_read_cycle
-    maxeltu_write_cycle maxeltu_make_meter maxeltu_offer maxeltu_week_table maxeltu_calendar_minute maxeltu_duty_minute
+    maxeltu_write_cycle maxeltu_in_force maxeltu_make_meter maxeltu_offer maxeltu_week_table maxeltu_calendar_minute
+    maxeltu_duty_minute
 );
 declare!(
     plain_verdict plain_test plain_even_plan plain_report plain_last_report plain_nearest_report plain_between
     plain_plan_cost plain_check_cycle plain_check_late plain_cycle_cost plain_normal_form plain_read_cycle
-    plain_write_cycle plain_make_meter plain_offer plain_week_table plain_calendar_minute plain_duty_minute
+    plain_write_cycle plain_in_force plain_make_meter plain_offer plain_week_table plain_calendar_minute
+    plain_duty_minute
 );
 
 pub struct Calls {
@@ -86,6 +91,7 @@ pub struct Calls {
     normal_form: NormalForm,
     read_cycle: ReadCycle,
     write_cycle: WriteCycle,
+    in_force: InForce,
     make_meter: MakeMeter,
     offer: Offer,
     week_table: WeekTable,
@@ -108,6 +114,7 @@ pub const LIBRARY: Calls = Calls {
     normal_form: maxeltu_normal_form,
     read_cycle: maxeltu_read_cycle,
     write_cycle: maxeltu_write_cycle,
+    in_force: maxeltu_in_force,
     make_meter: maxeltu_make_meter,
     offer: maxeltu_offer,
     week_table: maxeltu_week_table,
@@ -130,6 +137,7 @@ pub const PLAIN_C: Calls = Calls {
     normal_form: plain_normal_form,
     read_cycle: plain_read_cycle,
     write_cycle: plain_write_cycle,
+    in_force: plain_in_force,
     make_meter: plain_make_meter,
     offer: plain_offer,
     week_table: plain_week_table,
@@ -217,6 +225,15 @@ impl Calls {
     pub fn write_cycle(&self, pairs: &[Pair], file: &mut [u8]) -> u32 {
         let mut written = 0;
         unsafe { (self.write_cycle)(pairs.as_ptr(), pairs.len(), file.as_mut_ptr(), file.len(), &mut written) }
+    }
+
+    /// The file in force, 1 or 2, or a refusal, whose number is never so small.
+    pub fn in_force(&self, first: &[u8], second: &[u8]) -> u32 {
+        let mut which = 0;
+        match unsafe { (self.in_force)(first.as_ptr(), first.len(), second.as_ptr(), second.len(), &mut which) } {
+            0 => which,
+            refusal => refusal,
+        }
     }
 
     pub fn make_meter(&self, spec: &[u8], meter: &mut Meter) -> u32 {

@@ -2,6 +2,7 @@
 
 mod calls;
 mod costs;
+mod dated;
 mod duty;
 mod late;
 mod meters;
@@ -12,7 +13,7 @@ mod windows;
 use calls::{Calls, LIBRARY, PLAIN_C};
 use reference::schedule::LAID_OUT;
 use reference::{even, feasibility, file, spec, Kind, Pair, Plan, Spec};
-use std::cell::RefCell;
+use std::cell::{Cell, RefCell};
 use std::hint::black_box;
 use std::time::{Duration, Instant};
 
@@ -87,6 +88,25 @@ fn both_rates(size: (u64, u64), gap: (u64, u64), supply: (u64, u64), demand: (u6
 fn changing(spec: &Spec, count: u64) -> Vec<Pair> {
     let within = |range: (u64, u64), i: u64| (range.0 + i % (range.1 - range.0 + 1)) as u16;
     (0..count).map(|i| Pair { gap: within(spec.gap, i * 7 + i / 5), size: within(spec.size, i * 3) }).collect()
+}
+
+/// True or false in no order.
+fn coin() -> impl FnMut() -> bool {
+    let mut state: u64 = 1;
+    move || {
+        state = state.wrapping_mul(6_364_136_223_846_793_005).wrapping_add(1);
+        state >> 63 == 1
+    }
+}
+
+/// Each of the inputs in turn, over and over.
+fn in_turn<'a, T>(inputs: &'a [T]) -> impl Fn() -> &'a T {
+    let at = Cell::new(0);
+    move || {
+        let i = at.get();
+        at.set(if i + 1 == inputs.len() { 0 } else { i + 1 });
+        &inputs[i]
+    }
 }
 
 fn cycles() {
@@ -194,6 +214,7 @@ fn main() {
     costs::all();
     late::all();
     normal::all();
+    dated::all();
     meters::all();
     duty::all();
     windows::all();

@@ -3,9 +3,9 @@
 
 use crate::calls::{Calls, LIBRARY, PLAIN_C};
 use crate::windows::{heading, row};
-use crate::{line, times};
+use crate::{coin, in_turn, line, times};
 use reference::Pair;
-use std::cell::{Cell, RefCell};
+use std::cell::RefCell;
 use std::hint::black_box;
 
 /// Two pairs that their sizes tell apart, A before B.
@@ -27,12 +27,8 @@ fn hardest(count: usize) -> Vec<Pair> {
 
 /// Pairs of two kinds in no order. There are many such lists: of a single one the processor learns each branch by heart.
 fn mixed() -> Vec<Vec<Pair>> {
-    let mut state: u64 = 1;
-    let mut next = || {
-        state = state.wrapping_mul(6_364_136_223_846_793_005).wrapping_add(1);
-        [A, B][(state >> 63) as usize]
-    };
-    (0..64).map(|_| (0..512).map(|_| next()).collect()).collect()
+    let mut coin = coin();
+    (0..64).map(|_| (0..512).map(|_| if coin() { B } else { A }).collect()).collect()
 }
 
 /// Cycles whose normal forms are equally long, asked for in turn.
@@ -83,12 +79,7 @@ fn normal_form(name: &str, cycles: &[Vec<Pair>]) {
     for pairs in cycles {
         assert_agreed(name, pairs);
     }
-    let at = Cell::new(0);
-    let next = || {
-        let i = at.get();
-        at.set(if i + 1 == cycles.len() { 0 } else { i + 1 });
-        &cycles[i]
-    };
+    let next = in_turn(cycles);
     let normal = RefCell::new(cycles[0].clone());
     let call = |calls: &Calls| calls.normal_form(next(), &mut normal.borrow_mut());
     line(&format!("normal form, {name}"), call, || literal(next()).len() as u32);
