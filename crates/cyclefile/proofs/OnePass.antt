@@ -45,6 +45,24 @@ answer_first : (i : ℕ) (p : Pair) (r : Result (List Pair) ℕ) → answer_from
 answer_first i p (Ok ps) = let e : i + suc (length ps) ≡ i + 1 + length ps = omega arith in ap Ok e
 answer_first i p (Err n) = refl
 
+-- how a step decides the answer: a pair that is taken leaves it to the rest, and each stop gives it
+module _ (i : ℕ) (before : Option Pair) (b : List ℕ) where
+  pub answer_pair : (k : ℕ) (t : Taken) → read_pair before b ≡ Ok t → answer_from i (read_pairs (suc k) before b) ≡ answer_from (i + 1) (read_pairs k (Some t.pair) (drop t.bytes b))
+  unfolding read_pairs
+  answer_pair k t h = rw h (answer_first i t.pair (read_pairs k (Some t.pair) (drop t.bytes b)))
+
+  pub answer_stop : (k n : ℕ) → read_pair before b ≡ Err n → answer_from i (read_pairs (suc k) before b) ≡ Err n
+  unfolding read_pairs
+  answer_stop k n h = rw h
+
+  pub answer_end : eqb (length b) 0 ≡ true → answer_from i (read_pairs 0 before b) ≡ Ok i
+  unfolding read_pairs
+  answer_end e = rw (e, add-zero)
+
+  pub answer_over : eqb (length b) 0 ≡ false → answer_from i (read_pairs 0 before b) ≡ Err 21
+  unfolding read_pairs
+  answer_over e = rw e
+
 -- the answer and the words at the end
 abbrev pub Outcome : Type 0
 Outcome = Result ℕ ℕ × List ℕ
@@ -67,20 +85,20 @@ whole_outcome words n before b h e =
 
 module _ (words : List ℕ) (i : ℕ) (before : Option Pair) (b : List ℕ) where
   pub pass_pair : (k : ℕ) (t : Taken) → read_pair before b ≡ Ok t → pass_from words i (suc k) before b ≡ pass_from (put i t.pair words) (i + 1) k (Some t.pair) (drop t.bytes b)
-  unfolding read_pairs passed_pairs
-  pass_pair k t h = rw h (ap (λ (a : Result ℕ ℕ). (a, stored (i + 1) (passed_pairs k (Some t.pair) (drop t.bytes b)) (put i t.pair words))) (answer_first i t.pair (read_pairs k (Some t.pair) (drop t.bytes b))))
+  unfolding passed_pairs
+  pass_pair k t h = rw (answer_pair i before b k t h, h)
 
   pub pass_stop : (k n : ℕ) → read_pair before b ≡ Err n → pass_from words i (suc k) before b ≡ (Err n, words)
-  unfolding read_pairs passed_pairs
-  pass_stop k n h = rw h
+  unfolding passed_pairs
+  pass_stop k n h = rw (answer_stop i before b k n h, h)
 
   pub pass_end : eqb (length b) 0 ≡ true → pass_from words i 0 before b ≡ (Ok i, words)
-  unfolding read_pairs passed_pairs
-  pass_end e = rw (e, add-zero)
+  unfolding passed_pairs
+  pass_end e = rw (answer_end i before b e)
 
   pub pass_over : eqb (length b) 0 ≡ false → pass_from words i 0 before b ≡ (Err 21, words)
-  unfolding read_pairs passed_pairs
-  pass_over e = rw e
+  unfolding passed_pairs
+  pass_over e = rw (answer_over i before b e)
 
 -- what is left behind a pair that is taken
 pub left_behind : (n : ℕ) (b : List ℕ) → take (length b - n) (drop n b) ≡ drop n b

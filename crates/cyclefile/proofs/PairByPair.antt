@@ -11,7 +11,7 @@ use borrow.Author.Tests.{eqb-true, eqb-false, ne_eqb}
 use Rattle.std.specs.Prelude.{Option, Some, Result, Ok, Err}
 use Rattle.pairs.specs.declared.Pair.{Pair}
 use Rattle.cyclefile.specs.declared.reading.steps.Taken.{Taken}
-use Rattle.cyclefile.specs.File.{taken_pair, read_pair, after_pair, with_first, read_pairs, passed_pairs}
+use Rattle.cyclefile.specs.File.{taken_pair, read_pair, after_read, with_first, read_pairs, passed_pairs}
 
 -- a pair that is taken leaves the rest to decide, and one that is refused decides
 module _ (before : Option Pair) (b : List ℕ) (k : ℕ) where
@@ -92,11 +92,11 @@ passed_all (suc n) before b ps h =
     let s = split before b n ps h in
     rw (s.head_read, passed_all n (Some s.head) (drop s.taken b) s.tail s.tail_read) (sym s.ps_is)
 
-few_by : (n : ℕ) (r : Result Taken ℕ) (rest : Pair → ℕ → List Pair) → ((p : Pair) (taken : ℕ) → length (rest p taken) ≤ n) → length (after_pair r (λ (m : ℕ). []) (λ (p : Pair) (taken : ℕ). p ∷ rest p taken)) ≤ suc n
-few_by n (Ok t) rest h = let k = h t.pair t.bytes in omega arith
+few_by : (n : ℕ) (r : Result Taken ℕ) (rest : Taken → List Pair) → ((t : Taken) → length (rest t) ≤ n) → length (after_read r (λ (m : ℕ). []) (λ (t : Taken). t.pair ∷ rest t)) ≤ suc n
+few_by n (Ok t) rest h = let k = h t in omega arith
 few_by n (Err m) rest h = zero-le
 
 pub passed_few : (n : ℕ) (before : Option Pair) (b : List ℕ) → length (passed_pairs n before b) ≤ n
 unfolding passed_pairs
 passed_few zero before b = zero-le
-passed_few (suc n) before b = few_by n (read_pair before b) (λ (p : Pair) (taken : ℕ). passed_pairs n (Some p) (drop taken b)) (λ p taken. passed_few n (Some p) (drop taken b))
+passed_few (suc n) before b = few_by n (read_pair before b) (λ (t : Taken). passed_pairs n (Some t.pair) (drop t.bytes b)) (λ t. passed_few n (Some t.pair) (drop t.bytes b))

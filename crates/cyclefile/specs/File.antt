@@ -102,10 +102,10 @@ read_pair before b =
     (cond (stands_in_vain before (get_or b 0 0) (pair_at (last_pair before) b)) (Err 19)
     (Ok (taken_pair (pair_at (last_pair before) b) (bytes_taken (get_or b 0 0)))))))
 
--- what follows a pair that is taken, or a refusal
-abbrev pub after_pair : {R : Type 0} → Result Taken ℕ → (ℕ → R) → (Pair → ℕ → R) → R
-after_pair (Ok t) stop rest = rest t.pair t.bytes
-after_pair (Err n) stop rest = stop n
+-- what follows what was read, or a refusal
+abbrev pub after_read : {A R : Type 0} → Result A ℕ → (ℕ → R) → (A → R) → R
+after_read (Ok x) stop rest = rest x
+after_read (Err n) stop rest = stop n
 
 abbrev pub with_first : Pair → Result (List Pair) ℕ → Result (List Pair) ℕ
 with_first p (Ok ps) = Ok (p ∷ ps)
@@ -114,7 +114,7 @@ with_first p (Err n) = Err n
 -- n pairs; then, last of all, document 02, Req 01: "21 bytes over, at the place where document 01 has its last 18"
 unfoldable pub read_pairs : ℕ → Option Pair → List ℕ → Result (List Pair) ℕ
 read_pairs zero before b = cond (eqb (length b) 0) (Ok []) (Err 21)
-read_pairs (suc n) before b = after_pair (read_pair before b) Err (λ (p : Pair) (taken : ℕ). with_first p (read_pairs n (Some p) (drop taken b)))
+read_pairs (suc n) before b = after_read (read_pair before b) Err (λ (t : Taken). with_first t.pair (read_pairs n (Some t.pair) (drop t.bytes b)))
 
 -- "18 under 2 bytes; 12; 20 the lent list has fewer places than the count": the count that a file begins with, or the number
 unfoldable pub read_count : ℕ → List ℕ → Result ℕ ℕ
@@ -124,23 +124,18 @@ read_count places file =
     (cond (ltb places (word file 0)) (Err 20)
     (Ok (word file 0))))
 
--- what follows a count, or a refusal
-abbrev pub after_count : {R : Type 0} → Result ℕ ℕ → (ℕ → R) → (ℕ → R) → R
-after_count (Ok n) stop rest = rest n
-after_count (Err m) stop rest = stop m
-
 -- ".. then pair by pair .."
 unfoldable pub read_cycle : ℕ → List ℕ → Result (List Pair) ℕ
-read_cycle places file = after_count (read_count places file) Err (λ (n : ℕ). read_pairs n None (drop 2 file))
+read_cycle places file = after_read (read_count places file) Err (λ (n : ℕ). read_pairs n None (drop 2 file))
 
 -- the pairs in front of the first refusal, and all n where there is none
 unfoldable pub passed_pairs : ℕ → Option Pair → List ℕ → List Pair
 passed_pairs zero before b = []
-passed_pairs (suc n) before b = after_pair (read_pair before b) (λ (m : ℕ). []) (λ (p : Pair) (taken : ℕ). p ∷ passed_pairs n (Some p) (drop taken b))
+passed_pairs (suc n) before b = after_read (read_pair before b) (λ (m : ℕ). []) (λ (t : Taken). t.pair ∷ passed_pairs n (Some t.pair) (drop t.bytes b))
 
 -- of a whole file: what is stored where each pair is stored as it is read
 unfoldable pub stored_pairs : ℕ → List ℕ → List Pair
-stored_pairs places file = after_count (read_count places file) (λ (m : ℕ). []) (λ (n : ℕ). passed_pairs n None (drop 2 file))
+stored_pairs places file = after_read (read_count places file) (λ (m : ℕ). []) (λ (n : ℕ). passed_pairs n None (drop 2 file))
 
 -- ---- What calls answer, and what they leave in lent places
 

@@ -1,5 +1,5 @@
 // One pair of a cycle file.
-ghost use Rattle.std.specs.Prelude.{◌≡◌, ◌+◌, ◌≤◌, IfOk, cond, not, eqb, length};
+ghost use Rattle.std.specs.Prelude.{◌≡◌, ◌+◌, ◌≤◌, IfOk, cond, length};
 ghost use Rattle.spec.specs.Refusals.{numbered};
 ghost use Rattle.spec.specs.File.{word};
 ghost use Rattle.cyclefile.specs.File.{read_pair, gap_stands, size_stands, map_byte, has_gap, has_size, map_is_wrong, last_pair, field_length, bytes_taken};
@@ -53,18 +53,16 @@ impl PairMap {
     {
         (3 < self.0) | (before.is_none() & !(self.has_gap() & self.has_size()))
     }
+}
 
-    // Whether a pair that was read is written with another map: then a field stands that should be left out. (No field that should stand is
-    // left out, since one that is left out equals the one before.)
-    fn is_in_vain(self, before: &Option<Pair>, pair: Pair) -> bool
-        ensures { result ≡ not (eqb self.0 (map_byte (gap_stands before.now pair) (size_stands before.now pair))) }
-    {
-        self.0
-            != map_byte(
-                differs(before.as_ref().map(|last| last.gap), pair.gap),
-                differs(before.as_ref().map(|last| last.size), pair.size),
-            )
-    }
+// The map that a pair is written with, after the one before.
+fn written_map(before: &Option<Pair>, pair: Pair) -> u8
+    ensures { result ≡ map_byte (gap_stands before.now pair) (size_stands before.now pair) }
+{
+    map_byte(
+        differs(before.as_ref().map(|last| last.gap), pair.gap),
+        differs(before.as_ref().map(|last| last.size), pair.size),
+    )
 }
 
 // A field that stands at `at`, or the one before. One branch gives number and place, so that the next place is known before the bytes are.
@@ -123,7 +121,8 @@ pub(crate) fn read_pair(before: &Option<Pair>, bytes: &[u8]) -> Result<Taken, Re
         gap: gap.number,
         size: size.number,
     };
-    if map.is_in_vain(before, pair) {
+    // A field that is left out equals the one before, as it should: so with another map some field stands that should be left out.
+    if map.0 != written_map(before, pair) {
         return Err(Refusal::NotLeftOut);
     }
     Ok(Taken {

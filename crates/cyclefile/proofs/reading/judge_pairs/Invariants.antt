@@ -1,6 +1,5 @@
 -- What is left of the file, read after the pairs that are judged, decides the answer. A step takes its pair, stops with its refusal, or
--- none is left. The laws of OnePass speak of the words too: none are lent here, so they are handed an empty list, and of each only the answer
--- is taken. Assumes nothing.
+-- none is left. Assumes nothing.
 use mathlib.Core.Path.{◌≡◌}
 use Prim.Native.Nat.{◌-◌}
 use Rattle.std.specs.Prelude.{None}
