@@ -1,5 +1,5 @@
--- What is promised of every two lent files: when each answer is given, that the part is a written cycle exactly where a file is told, and
--- where the order of the two matters. By the cases of the choice. Assumes nothing.
+-- What is promised of every two lent files beside their answer: that the part is a written cycle exactly where a file is told, and where the
+-- order of the two matters. By what makes each answer be given. Assumes nothing.
 use mathlib.Core.Path.{◌≡◌, refl, sym, ap, ◌∙◌}
 use Prim.Native.Nat.{ℕ}
 use native.Mathlib.Omega.{arith}
@@ -14,33 +14,9 @@ use Rattle.dated.specs.declared.InForce.{InForce}
 use Rattle.dated.specs.declared.InForce.TheVariants.{First, Second}
 use Rattle.dated.specs.InForce.{read_dated, in_force, part_of, part_in_force, Readable, swapped}
 use Rattle.dated.proofs.Readings.{part_read, part_bytes, not_readable, either}
-use Rattle.dated.proofs.Chosen.{Case, first_alone, second_alone, none, later_first, later_second, equal, differing, TellsFirst, TellsSecond, TellsNumber, only_first, only_second, neither, first_later, second_later, equal_files, same_day, case, answer, answered, first_told, second_told, number_told, same_or_not}
+use Rattle.dated.proofs.Chosen.{Told, tells_first, tells_second, tells_number, told, in_force_first, in_force_second, same_or_not}
 
 module _ (a b : List ℕ) where
-  -- ---- when each answer is given
-
-  tells_first : TellsFirst a b → in_force a b ≡ Ok First
-  tells_first (r, inl cannot) = elim (either b) [ inl q ↦ absurd (cannot q) | inr f ↦ only_first a b r f.1 ]
-  tells_first (r, inr (inl h)) = elim (either b) [ inl q ↦ first_later a b r q h | inr f ↦ only_first a b r f.1 ]
-  tells_first (r, inr (inr e)) = equal_files a b r (rw e at r) e
-
-  tells_second : TellsSecond a b → in_force a b ≡ Ok Second
-  tells_second (q, inl cannot) = elim (either a) [ inl r ↦ absurd (cannot r) | inr e ↦ only_second a b e.1 q ]
-  tells_second (q, inr h) = elim (either a) [ inl r ↦ second_later a b r q h | inr e ↦ only_second a b e.1 q ]
-
-  tells_number : (n : ℕ) → TellsNumber a b n → in_force a b ≡ Err n
-  tells_number n (inl (e, cannot)) = elim (either b) [ inl q ↦ absurd (cannot q) | inr f ↦ neither a b e f.1 ]
-  tells_number n (inr (z, r, q, d, apart)) = same_day a b r q d apart ∙ ap Err (sym z)
-
-  pub in_force_first : (in_force a b ≡ Ok First) ↔ TellsFirst a b
-  in_force_first = (first_told a b, tells_first)
-
-  pub in_force_second : (in_force a b ≡ Ok Second) ↔ TellsSecond a b
-  in_force_second = (second_told a b, tells_second)
-
-  pub in_force_numbers : (n : ℕ) → (in_force a b ≡ Err n) ↔ TellsNumber a b n
-  in_force_numbers n = (number_told a b n, tells_number n)
-
   -- ---- the part
 
   abbrev PartRead : Result InForce ℕ → Type 0
@@ -51,8 +27,8 @@ module _ (a b : List ℕ) where
   told_by (Err n) p = absurd (let k = sym (no_count 512 [] (omega arith)).0 ∙ p.1 in cc)
 
   read_by : (r : Result InForce ℕ) → in_force a b ≡ r → (w : InForce) → r ≡ Ok w → PartRead r
-  read_by (Ok First) e w z = (_, part_read a (first_told a b e).0)
-  read_by (Ok Second) e w z = (_, part_read b (second_told a b e).0)
+  read_by (Ok First) e w z = (_, part_read a ((in_force_first a b).0 e).0)
+  read_by (Ok Second) e w z = (_, part_read b ((in_force_second a b).0 e).0)
   read_by (Err n) e w z = cc
 
   pub part_reads : ((c : List Pair) × (read_cycle 512 (part_in_force a b) ≡ Ok c)) ↔ ((w : InForce) × (in_force a b ≡ Ok w))
@@ -81,34 +57,42 @@ module _ (a b : List ℕ) where
   unfolding part_in_force
   part_written c small small' h = writes_back 512 (part_of (in_force a b) a b) c (bytes_by (in_force a b) small small') h
 
--- ---- the order of the two
+  -- ---- the order of the two
 
+  -- what makes an answer be given makes it be given of the two the other way round, of the same file
+  swapped_by : ¬ (a ≡ b) → Readable a ⊎ Readable b → Told a b → in_force b a ≡ swapped (in_force a b)
+  swapped_by apart some (inl (r, inl cannot)) = rw (tells_first a b (r, inl cannot)) (tells_second b a (r, inl cannot))
+  swapped_by apart some (inl (r, inr (inl h))) = rw (tells_first a b (r, inr (inl h))) (tells_second b a (r, inr h))
+  swapped_by apart some (inl (r, inr (inr e))) = absurd (apart e)
+  swapped_by apart some (inr (inl (q, inl cannot))) = rw (tells_second a b (q, inl cannot)) (tells_first b a (q, inl cannot))
+  swapped_by apart some (inr (inl (q, inr h))) = rw (tells_second a b (q, inr h)) (tells_first b a (q, inr (inl h)))
+  swapped_by apart some (inr (inr (n, inl (e, cannot)))) = absurd (⊎_elim (not_readable a e) cannot some)
+  swapped_by apart some (inr (inr (n, inr (z, r, q, d, other)))) = rw (tells_number a b n (inr (z, r, q, d, other))) (tells_number b a n (inr (z, q, r, sym d, λ e. other (sym e))))
+
+  pub either_order : ¬ (a ≡ b) → Readable a ⊎ Readable b → in_force b a ≡ swapped (in_force a b)
+  either_order apart some = swapped_by apart some (told a b)
+
+-- the part is the same: the same file's, or empty
 module _ (a b : List ℕ) where
-  swapped_by : (x : Case a b) → ¬ (a ≡ b) → (Readable a ⊎ Readable b) → in_force b a ≡ swapped (answer a b x)
-  swapped_by (first_alone r m f) apart some = only_second b a f r
-  swapped_by (second_alone n e q) apart some = only_first b a q e
-  swapped_by (none n m e f) apart some = absurd (⊎_elim (not_readable a e) (not_readable b f) some)
-  swapped_by (later_first r q h) apart some = second_later b a q r h
-  swapped_by (later_second r q h) apart some = first_later b a q r h
-  swapped_by (equal r q e) apart some = absurd (apart e)
-  swapped_by (differing r q d other) apart some = same_day b a q r (sym d) (λ e. apart (sym e))
-
-  pub either_order : ¬ (a ≡ b) → (Readable a ⊎ Readable b) → in_force b a ≡ swapped (in_force a b)
-  either_order apart some = swapped_by (case a b) apart some ∙ ap swapped (sym (answered a b (case a b)))
-
   other_way : (r : Result InForce ℕ) → part_of (swapped r) b a ≡ part_of r a b
   other_way (Ok First) = refl
   other_way (Ok Second) = refl
   other_way (Err n) = refl
 
-  none_by : {n m : ℕ} → read_dated a ≡ Err n → read_dated b ≡ Err m → part_in_force b a ≡ part_in_force a b
+  some_by : ¬ (a ≡ b) → Readable a ⊎ Readable b → part_in_force b a ≡ part_in_force a b
   unfolding part_in_force
-  none_by e f = ap (λ (r : Result InForce ℕ). part_of r b a) (neither b a f e) ∙ ap (λ (r : Result InForce ℕ). part_of r a b) (sym (neither a b e f))
+  some_by apart some = ap (λ (r : Result InForce ℕ). part_of r b a) (either_order a b apart some) ∙ other_way (in_force a b)
 
-  some_by : (a ≡ b) ⊎ ¬ (a ≡ b) → (Readable a ⊎ Readable b) → part_in_force b a ≡ part_in_force a b
-  unfolding part_in_force
-  some_by (inl e) some = rw e
-  some_by (inr apart) some = ap (λ (r : Result InForce ℕ). part_of r b a) (either_order apart some) ∙ other_way (in_force a b)
+  none_by : {n m : ℕ} → read_dated a ≡ Err n → read_dated b ≡ Err m → part_in_force b a ≡ part_in_force a b
+  none_by e f =
+      (part_empty b a).1 (_, tells_number b a _ (inl (f, not_readable a e)))
+      ∙ sym ((part_empty a b).1 (_, tells_number a b _ (inl (e, not_readable b f))))
+
+  part_by : (a ≡ b) ⊎ ¬ (a ≡ b) → Readable a ⊎ ((n : ℕ) × (read_dated a ≡ Err n)) → Readable b ⊎ ((n : ℕ) × (read_dated b ≡ Err n)) → part_in_force b a ≡ part_in_force a b
+  part_by (inl e) x y = rw e
+  part_by (inr apart) (inl r) y = some_by apart (inl r)
+  part_by (inr apart) (inr e) (inl q) = some_by apart (inr q)
+  part_by (inr apart) (inr e) (inr f) = none_by e.1 f.1
 
   pub same_part : part_in_force b a ≡ part_in_force a b
-  same_part = elim (either a) [ inl r ↦ some_by (same_or_not a b) (inl r) | inr e ↦ elim (either b) [ inl q ↦ some_by (same_or_not a b) (inr q) | inr f ↦ none_by e.1 f.1 ] ]
+  same_part = part_by (same_or_not a b) (either a) (either b)

@@ -54,7 +54,8 @@ use Rattle.cyclefile.proofs.Refusals.{CycleRefusal, cycle_numbered}
 use Rattle.cyclefile.proofs.CutOrOver.{cut_off, number_stays, over_refused, over_whole}
 use Rattle.cyclefile.proofs.WrittenBytes.{writes_bytes}
 use Rattle.dated.proofs.Readings.{dated_is_read, is_read, was_written}
-use Rattle.dated.proofs.Promises.{in_force_first, in_force_second, in_force_numbers, part_empty, part_reads, part_written, either_order, same_part}
+use Rattle.dated.proofs.Chosen.{in_force_first, in_force_second, in_force_numbers}
+use Rattle.dated.proofs.Promises.{part_empty, part_reads, part_written, either_order, same_part}
 use Rattle.meter.proofs.Steps.{refused_meter_kept}
 use Rattle.meter.proofs.SameAnswers.{same_answers, holds_few}
 use Rattle.meter.proofs.Budget.{budget_kept}
