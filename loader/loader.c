@@ -6,8 +6,8 @@
  *     loader --dated SPECIFICATION FIRST SECOND [MINUTES]
  *
  * With MINUTES, a decimal number, each report may arrive up to so many minutes
- * late. With --dated the cycle is that of the file in force of two dated ones; which
- * one that is is told first, where there is one.
+ * late. With --dated the cycle is that of the file in force of two dated ones, and
+ * the loader says first which of them that is.
  *
  * Exit status: 0 the cycle obeys the specification; 1 it is refused; 2 wrong
  * usage, or a file that the system does not hand over.
@@ -155,7 +155,7 @@ static int judge(const struct bytes *spec, struct maxeltu_bytes cycle, const uin
     return tell(maxeltu_verdict(spec->at, spec->length, cycle.at, cycle.length));
 }
 
-/* Judges the cycle of the file in force. Which that is is asked before the specification is judged: it hangs on the two files alone. */
+/* Judges the cycle of the file in force. The specification is judged after the choice, which hangs on the two files alone. */
 static int judge_dated(const struct bytes *spec, const struct bytes *first, const struct bytes *second, const uint32_t *minutes)
 {
     uint32_t which, refusal = maxeltu_in_force(first->at, first->length, second->at, second->length, &which);
