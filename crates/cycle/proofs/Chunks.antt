@@ -19,15 +19,18 @@ use Rattle.pairs.specs.declared.Pair.{Pair}
 use Rattle.pairs.specs.Pairs.{no_pair, pairs_of}
 use Rattle.cycle.specs.Cycles.{pair_gap, pair_size}
 use Rattle.cycle.specs.Check.{gaps_allowed, sizes_allowed}
+use Rattle.cycle.specs.declared.windows.Measure.{Measure}
+use Rattle.cycle.specs.declared.windows.Measure.TheVariants.{Minutes, Records}
 use Rattle.cycle.specs.Windows.{pair_in, pairs_in}
 
-pub length_pairs_in : (xs : List (List ℕ)) → length (pairs_in xs) ≡ length xs
-length_pairs_in xs = length-map xs pair_in
+pub length_pairs_in : (by : Measure) (xs : List (List ℕ)) → length (pairs_in by xs) ≡ length xs
+length_pairs_in by xs = length-map xs (pair_in by)
 
-pub pair_of_chunk : (xs : List (List ℕ)) (j : ℕ) → get_or (pairs_in xs) j no_pair ≡ pair_in (get_or xs j [])
-pair_of_chunk xs j = get_or-map pair_in xs j []
+pub pair_of_chunk : (by : Measure) (xs : List (List ℕ)) (j : ℕ) → get_or (pairs_in by xs) j no_pair ≡ pair_in by (get_or xs j [])
+pair_of_chunk Minutes xs j = get_or-map (pair_in Minutes) xs j []
+pair_of_chunk Records xs j = get_or-map (pair_in Records) xs j []
 
-pub pairs_in_chunks : (n : ℕ) (l : List ℕ) → n ≡ length l / 2 → pairs_in (first_chunks 2 n l) ≡ pairs_of l
+pub pairs_in_chunks : (n : ℕ) (l : List ℕ) → n ≡ length l / 2 → pairs_in Minutes (first_chunks 2 n l) ≡ pairs_of l
 pairs_in_chunks zero [] e = refl
 pairs_in_chunks zero (g ∷ []) e = refl
 pairs_in_chunks zero (g ∷ s ∷ l) e = absurd (omega arith)
@@ -44,10 +47,10 @@ all_list f ps =
       λ e. list_all-from_AllPass f ps (All-from_get_or (λ p. f p ≡ true) ps no_pair (k.0 e)),
     )
 
-pub gaps_walk : (spec : Spec) (xs : List (List ℕ)) → list_all (λ x. gap_allowed spec (get_or x 0 0)) xs ≡ gaps_allowed spec (pairs_in xs)
+pub gaps_walk : (spec : Spec) (xs : List (List ℕ)) → list_all (λ x. gap_allowed spec (get_or x 0 0)) xs ≡ gaps_allowed spec (pairs_in Minutes xs)
 unfolding gaps_allowed pair_gap
-gaps_walk spec xs = sym (list_all-map (λ p. gap_allowed spec p.gap) pair_in xs) ∙ all_list (λ p. gap_allowed spec p.gap) (pairs_in xs)
+gaps_walk spec xs = sym (list_all-map (λ p. gap_allowed spec p.gap) (pair_in Minutes) xs) ∙ all_list (λ p. gap_allowed spec p.gap) (pairs_in Minutes xs)
 
-pub sizes_walk : (spec : Spec) (xs : List (List ℕ)) → list_all (λ x. size_allowed spec (get_or x 1 0)) xs ≡ sizes_allowed spec (pairs_in xs)
+pub sizes_walk : (spec : Spec) (xs : List (List ℕ)) → list_all (λ x. size_allowed spec (get_or x 1 0)) xs ≡ sizes_allowed spec (pairs_in Minutes xs)
 unfolding sizes_allowed pair_size
-sizes_walk spec xs = sym (list_all-map (λ p. size_allowed spec p.size) pair_in xs) ∙ all_list (λ p. size_allowed spec p.size) (pairs_in xs)
+sizes_walk spec xs = sym (list_all-map (λ p. size_allowed spec p.size) (pair_in Minutes) xs) ∙ all_list (λ p. size_allowed spec p.size) (pairs_in Minutes xs)

@@ -38,18 +38,18 @@ unfolding cycle_number
 passes spec ps count gaps sizes supply demand = sym (gets_0 _ _ _ _ _ count gaps sizes supply demand)
 
 -- a number from 13 to 16 is the cycle's own: 3, 4 and 24 are the specification's
-cycle_own : (spec : Spec) (ps : List Pair) (n : ℕ) → 13 ≤ n → n ≤ 16 → check_number spec ps ≡ n → cycle_number spec ps ≡ n
+pub cycle_own : (spec : Spec) (ps : List Pair) (n : ℕ) → 13 ≤ n → n ≤ 16 → check_number spec ps ≡ n → IsAccepted spec × (cycle_number spec ps ≡ n)
 unfolding check_number
 cycle_own spec ps n low high e =
-    (went_on (spec_number spec) (cycle_number spec ps) (λ m. m) n (λ some z. ⊎_elim (λ few. omega arith) (λ is. omega arith) (number_few spec some)) e).1
+    went_on (spec_number spec) (cycle_number spec ps) (λ m. m) n (λ some z. ⊎_elim (λ few. omega arith) (λ is. omega arith) (number_few spec some)) e
 
 pub gap_refused : GapRefused
 unfolding gaps_allowed
-gap_refused spec ps e = some_fails _ (length ps) ((cycle_said spec ps).is_13 (cycle_own spec ps 13 (omega arith) (omega arith) e))
+gap_refused spec ps e = some_fails _ (length ps) ((cycle_said spec ps).is_13 (cycle_own spec ps 13 (omega arith) (omega arith) e).1)
 
 pub size_refused : SizeRefused
 unfolding sizes_allowed
-size_refused spec ps e = some_fails _ (length ps) ((cycle_said spec ps).is_14 (cycle_own spec ps 14 (omega arith) (omega arith) e)).1
+size_refused spec ps e = some_fails _ (length ps) ((cycle_said spec ps).is_14 (cycle_own spec ps 14 (omega arith) (omega arith) e).1).1
 
 pub too_full : (rate : Option Rate) (ps : List Pair) → supply_kept rate ps ≡ false → TooFull rate (stretch (cycle_run ps))
 unfolding supply_kept
@@ -66,10 +66,10 @@ too_thin (Some x) ps e =
     (k.0, leb-false _ _ k.1.1)
 
 pub supply_refused : SupplyRefused
-supply_refused spec ps e = too_full spec.supply ps ((cycle_said spec ps).is_15 (cycle_own spec ps 15 (omega arith) (omega arith) e)).2
+supply_refused spec ps e = too_full spec.supply ps ((cycle_said spec ps).is_15 (cycle_own spec ps 15 (omega arith) (omega arith) e).1).2
 
 pub demand_refused : DemandRefused
-demand_refused spec ps e = too_thin spec.demand ps ((cycle_said spec ps).is_16 (cycle_own spec ps 16 (omega arith) (omega arith) e)).3
+demand_refused spec ps e = too_thin spec.demand ps ((cycle_said spec ps).is_16 (cycle_own spec ps 16 (omega arith) (omega arith) e).1).3
 
 -- a cycle is passed exactly when its endless run obeys the four rules
 pub passed_obeys : (spec : Spec) (ps : List Pair) → IsAccepted spec → 1 ≤ length ps → length ps ≤ 512

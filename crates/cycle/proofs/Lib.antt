@@ -1,6 +1,11 @@
 pub mod Chunks
 pub mod Runs
 pub mod MovingWindow
+pub mod Rows
+pub mod ShortestRows
+pub mod ShownRows
+pub mod Shown
+pub mod SentBack
 pub mod Starts
 pub mod Steps
 pub mod CyclesPassed

@@ -14,12 +14,15 @@ use Rattle.schedule.proofs.Sums.{sum_more, sum_add, block}
 use Rattle.schedule.proofs.Stretches.{stretch_block}
 use Rattle.schedule.proofs.Before.{minute_more, minute_mono, minute_least, minute_iff}
 use Rattle.schedule.proofs.Repeats.{minute_again}
-use Rattle.cycle.specs.declared.stretches.Parts.{Parts}
+use Rattle.cycle.specs.declared.windows.Parts.{Parts}
 use Rattle.cycle.specs.declared.stretches.Rule.{Rule}
-use Rattle.cycle.specs.declared.stretches.Window.{Window}
+use Rattle.cycle.specs.declared.windows.Window.{Window}
 use Rattle.cycle.specs.Cycles.{cycle_run, round}
-use Rattle.cycle.specs.Windows.{Walkable, IsReport, IsParts, Spans, with_report, without_report, rule_passes}
+use Rattle.cycle.specs.declared.windows.Measure.{Measure}
+use Rattle.cycle.specs.Windows.{pairs_in, run_in, Walkable, IsReport, IsParts, Spans, with_report, without_report, rule_passes}
+use Rattle.cycle.proofs.Chunks.{length_pairs_in}
 use Rattle.cycle.proofs.Runs.{gap_again}
+use Rattle.cycle.proofs.Rounds.{parts_add}
 
 module _ (s : Schedule) (v : ℕ) where
   module _ {w : Window} {x : Pair} (h : Spans s v w) where
@@ -101,9 +104,12 @@ module _ (s : Schedule) (v : ℕ) where
 
 -- in the run of a cycle, a window that starts in the first round
 module _ (ps : List Pair) (v : ℕ) {w : Window} (first_round : w.first < length ps) (short : v ≤ round ps) (h : Spans (cycle_run ps) v w) where
-  pub past_fits : length ps ≤ 512 → w.past ≤ 1024
+  pub past_most : w.past ≤ w.first + length ps
   unfolding round
-  past_fits few = omega (arith, spans_most (cycle_run ps) v (length ps) (gap_again ps) h short)
+  past_most = spans_most (cycle_run ps) v (length ps) (gap_again ps) h short
+
+  pub past_fits : length ps ≤ 512 → w.past ≤ 1024
+  past_fits few = omega (arith, past_most)
 
   pub next_place : w.minutes < v → w.past < 2 * length ps
   unfolding round
@@ -111,12 +117,30 @@ module _ (ps : List Pair) (v : ℕ) {w : Window} (first_round : w.first < length
 
 -- with the whole rounds, a window that reached the minutes left over holds what all the minutes hold
 module _ (ps : List Pair) (ok : Walkable ps) (m : ℕ) {x : Parts} (parts : IsParts ps m x) {w : Window} (h : Spans (cycle_run ps) x.rest w) (full : x.rest ≤ w.minutes) where
-  held_here : x.rounds + w.records ≡ stretch (cycle_run ps) (minute (cycle_run ps) w.first) m
-  held_here = rw (parts.adds (minute (cycle_run ps) w.first), spans_stretch (cycle_run ps) x.rest ok.later h full)
+  held_here : x.records + w.records ≡ stretch (cycle_run ps) (minute (cycle_run ps) w.first) m
+  held_here = rw (parts_add ps ok.later m x parts (minute (cycle_run ps) w.first), spans_stretch (cycle_run ps) x.rest ok.later h full)
 
   pub passes_here : (rule : Rule) {y : Pair} → IsReport (cycle_run ps) w.first y
-      → rule_passes rule (x.rounds + w.records) y.size ≡ rule_passes rule (stretch (cycle_run ps) (minute (cycle_run ps) w.first) m) ((cycle_run ps).size w.first)
+      → rule_passes rule (x.records + w.records) y.size ≡ rule_passes rule (stretch (cycle_run ps) (minute (cycle_run ps) w.first) m) ((cycle_run ps).size w.first)
   passes_here rule r = rw (held_here, r.size)
 
   pub first_there : w.first < w.past
   first_there = spans_some (cycle_run ps) x.rest ok.later h parts.some full
+
+-- a window that is filled from a start in the first round, of a cycle that is cut into pairs
+pub record Filled (ps : List Pair) (w : Window) : Type 0 where
+  pub first_round : w.first < length ps
+  pub start_fits : w.first < 1024
+  pub there : w.first < w.past
+  pub end_fits : w.past ≤ 1024
+
+pub filled : (by : Measure) (xs : List (List ℕ)) → Walkable (pairs_in by xs) → (m : ℕ) {x : Parts} → IsParts (pairs_in by xs) m x → {w : Window} → w.first < length xs
+    → x.rest ≤ w.minutes → Spans (run_in by xs) x.rest w → Filled (pairs_in by xs) w
+filled by xs ok m parts start full h =
+    let first_round = rw (← length_pairs_in by xs) at start in
+    record {
+      first_round = first_round;
+      start_fits = omega (arith, ok.few);
+      there = first_there (pairs_in by xs) ok m parts h full;
+      end_fits = past_fits (pairs_in by xs) _ first_round parts.short h ok.few;
+    }

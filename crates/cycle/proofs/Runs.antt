@@ -23,7 +23,8 @@ use Rattle.schedule.proofs.Before.{minute_least}
 use Rattle.schedule.proofs.Repeats.{stretch_first}
 use Rattle.cycle.specs.Cycles.{pair_gap, pair_size, cycle_run, round}
 use Rattle.cycle.specs.Check.{gaps_allowed, sizes_allowed, supply_kept, demand_met}
-use Rattle.cycle.specs.Windows.{run_in, run_of}
+use Rattle.cycle.specs.declared.windows.Measure.{Measure}
+use Rattle.cycle.specs.Windows.{place_of, run_in, run_of}
 use Rattle.cycle.proofs.Chunks.{length_pairs_in, pair_of_chunk}
 
 -- of what repeats after c, all pass exactly when the first c do
@@ -93,14 +94,14 @@ module _ (ps : List Pair) where
           (λ e a. rw (first a x.minutes) (leb-true _ _ (k.0 e a)), λ h. k.1 (λ a. le-leb _ _ (h (a % round ps))))
 
 -- report i of the endless run, at its pair's place j
-module _ (xs : List (List ℕ)) (i j : ℕ) (turned : i % length xs ≡ j) where
-  pub gap_in : get_or (get_or xs j []) 0 0 ≡ (run_in xs).gap i
+module _ (by : Measure) (xs : List (List ℕ)) (i j : ℕ) (turned : i % length xs ≡ j) where
+  pub gap_in : (at : ℕ) → at ≡ place_of by → get_or (get_or xs j []) at 0 ≡ (run_in by xs).gap i
   unfolding cycle_run pair_gap
-  gap_in = rw (length_pairs_in xs, turned, pair_of_chunk xs j)
+  gap_in at e = rw (e, length_pairs_in by xs, turned, pair_of_chunk by xs j)
 
-  pub size_in : get_or (get_or xs j []) 1 0 ≡ (run_in xs).size i
+  pub size_in : (at : ℕ) → at ≡ 1 - place_of by → get_or (get_or xs j []) at 0 ≡ (run_in by xs).size i
   unfolding cycle_run pair_size
-  size_in = rw (length_pairs_in xs, turned, pair_of_chunk xs j)
+  size_in at e = rw (e, length_pairs_in by xs, turned, pair_of_chunk by xs j)
 
 -- and in a flat list, as the crate `cost` bills it
 pub flat_size : (l : List ℕ) (i j : ℕ) → j < length l / 2 → i % (length l / 2) ≡ j → (run_of l).size i ≡ get_or l (2 * j + 1) 0

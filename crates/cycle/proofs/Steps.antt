@@ -46,6 +46,7 @@ module _ (count gaps sizes supply demand : Bool) (counted : count ≡ true) wher
 
 -- and from the number to the tests
 pub record Said (n : ℕ) (count gaps sizes supply demand : Bool) : Type 0 where
+  pub counted : 13 ≤ n → count ≡ true
   pub is_0 : n ≡ 0 → (count ≡ true) × (gaps ≡ true) × (sizes ≡ true) × (supply ≡ true) × (demand ≡ true)
   pub is_13 : n ≡ 13 → gaps ≡ false
   pub is_14 : n ≡ 14 → (gaps ≡ true) × (sizes ≡ false)
@@ -58,12 +59,12 @@ no n m h e = absurd (h e)
 
 pub said : (a b c d e : Bool) → Said (first_refusal a b c d e) a b c d e
 unfolding first_refusal
-said true true true true true = record { is_0 = λ h. (refl, refl, refl, refl, refl); is_13 = no 0 13 (omega arith); is_14 = no 0 14 (omega arith); is_15 = no 0 15 (omega arith); is_16 = no 0 16 (omega arith) }
-said true true true true false = record { is_0 = no 16 0 (omega arith); is_13 = no 16 13 (omega arith); is_14 = no 16 14 (omega arith); is_15 = no 16 15 (omega arith); is_16 = λ h. (refl, refl, refl, refl) }
-said true true true false e = record { is_0 = no 15 0 (omega arith); is_13 = no 15 13 (omega arith); is_14 = no 15 14 (omega arith); is_15 = λ h. (refl, refl, refl); is_16 = no 15 16 (omega arith) }
-said true true false d e = record { is_0 = no 14 0 (omega arith); is_13 = no 14 13 (omega arith); is_14 = λ h. (refl, refl); is_15 = no 14 15 (omega arith); is_16 = no 14 16 (omega arith) }
-said true false c d e = record { is_0 = no 13 0 (omega arith); is_13 = λ h. refl; is_14 = no 13 14 (omega arith); is_15 = no 13 15 (omega arith); is_16 = no 13 16 (omega arith) }
-said false b c d e = record { is_0 = no 12 0 (omega arith); is_13 = no 12 13 (omega arith); is_14 = no 12 14 (omega arith); is_15 = no 12 15 (omega arith); is_16 = no 12 16 (omega arith) }
+said true true true true true = record { counted = λ h. refl; is_0 = λ h. (refl, refl, refl, refl, refl); is_13 = no 0 13 (omega arith); is_14 = no 0 14 (omega arith); is_15 = no 0 15 (omega arith); is_16 = no 0 16 (omega arith) }
+said true true true true false = record { counted = λ h. refl; is_0 = no 16 0 (omega arith); is_13 = no 16 13 (omega arith); is_14 = no 16 14 (omega arith); is_15 = no 16 15 (omega arith); is_16 = λ h. (refl, refl, refl, refl) }
+said true true true false e = record { counted = λ h. refl; is_0 = no 15 0 (omega arith); is_13 = no 15 13 (omega arith); is_14 = no 15 14 (omega arith); is_15 = λ h. (refl, refl, refl); is_16 = no 15 16 (omega arith) }
+said true true false d e = record { counted = λ h. refl; is_0 = no 14 0 (omega arith); is_13 = no 14 13 (omega arith); is_14 = λ h. (refl, refl); is_15 = no 14 15 (omega arith); is_16 = no 14 16 (omega arith) }
+said true false c d e = record { counted = λ h. refl; is_0 = no 13 0 (omega arith); is_13 = λ h. refl; is_14 = no 13 14 (omega arith); is_15 = no 13 15 (omega arith); is_16 = no 13 16 (omega arith) }
+said false b c d e = record { counted = λ h. absurd (omega arith); is_0 = no 12 0 (omega arith); is_13 = no 12 13 (omega arith); is_14 = no 12 14 (omega arith); is_15 = no 12 15 (omega arith); is_16 = no 12 16 (omega arith) }
 
 -- it is none of the numbers before 12 nor after 16, but 0
 pub first_few : (a b c d e : Bool) → first_refusal a b c d e ≤ 16

@@ -1,5 +1,7 @@
 pub mod Cycles
 pub mod Check
 pub mod LateCheck
+pub mod Shortest
 pub mod Windows
+pub mod Rows
 pub mod Witnesses

@@ -8,11 +8,13 @@ use Rattle.spec.specs.Limits.{gap_allowed}
 use Rattle.pairs.specs.declared.Pair.{Pair}
 use Rattle.pairs.specs.Pairs.{pairs_of}
 use Rattle.schedule.specs.Schedules.{Schedule, sum, minute, stretch}
-use Rattle.cycle.specs.declared.stretches.Parts.{Parts}
-use Rattle.cycle.specs.declared.stretches.Round.{Round}
+use Rattle.cycle.specs.declared.windows.Measure.{Measure}
+use Rattle.cycle.specs.declared.windows.Measure.TheVariants.{Minutes, Records}
+use Rattle.cycle.specs.declared.windows.Parts.{Parts}
+use Rattle.cycle.specs.declared.windows.Round.{Round}
 use Rattle.cycle.specs.declared.stretches.Rule.{Rule}
 use Rattle.cycle.specs.declared.stretches.Rule.TheVariants.{AtMost, AtLeast}
-use Rattle.cycle.specs.declared.stretches.Window.{Window}
+use Rattle.cycle.specs.declared.windows.Window.{Window}
 use Rattle.cycle.specs.Cycles.{cycle_run, round, round_records}
 
 -- What 12 to 16 can be judged by: no gap that is allowed is 0, and R minutes are a minute at least. An accepted specification is of this
@@ -29,15 +31,20 @@ pub record Judges (spec : Spec) : Type 0 where
 abbrev pub run_of : List ℕ → Schedule
 run_of l = cycle_run (pairs_of l)
 
--- the pairs of a flat list that is cut into two numbers each, gap and size, and their endless run
-abbrev pub pair_in : List ℕ → Pair
-pair_in x = record { gap = get_or x 0 0; size = get_or x 1 0 }
+-- where in a pair the number stands that a window goes by
+abbrev pub place_of : Measure → ℕ
+place_of Minutes = 0
+place_of Records = 1
 
-abbrev pub pairs_in : List (List ℕ) → List Pair
-pairs_in xs = map pair_in xs
+-- the pairs of a flat list that is cut into two numbers each, gap and size, or seen by its records size and gap, and their endless run
+abbrev pub pair_in : Measure → List ℕ → Pair
+pair_in by x = record { gap = get_or x (place_of by) 0; size = get_or x (1 - place_of by) 0 }
 
-abbrev pub run_in : List (List ℕ) → Schedule
-run_in xs = cycle_run (pairs_in xs)
+abbrev pub pairs_in : Measure → List (List ℕ) → List Pair
+pairs_in by xs = map (pair_in by) xs
+
+abbrev pub run_in : Measure → List (List ℕ) → Schedule
+run_in by xs = cycle_run (pairs_in by xs)
 
 -- 1 to 512 pairs, none with a gap of 0
 pub record Walkable (ps : List Pair) : Type 0 where
@@ -57,13 +64,14 @@ pub record IsRound (ps : List Pair) (x : Round) : Type 0 where
   pub minutes_fit : x.minutes ≤ 65535 * 512
   pub records_fit : x.records ≤ 65535 * 512
 
--- x is m minutes in two parts: whole rounds, and from 1 minute to one round left over. From any start the m minutes hold what the
--- rounds hold, and what the minutes left over hold.
+-- x is m minutes in two parts: whole rounds, with what they hold, and from 1 minute to one round left over
 pub record IsParts (ps : List Pair) (m : ℕ) (x : Parts) : Type 0 where
-  pub adds : (a : ℕ) → stretch (cycle_run ps) a m ≡ x.rounds + stretch (cycle_run ps) a x.rest
+  pub splits : m ≡ x.rounds * round ps + x.rest
+  pub records : x.records ≡ x.rounds * round_records ps
   pub some : 1 ≤ x.rest
   pub short : x.rest ≤ round ps
-  pub rounds_fit : x.rounds ≤ 65536 * (65535 * 512)
+  pub rounds_fit : x.rounds ≤ 65535
+  pub records_fit : x.records ≤ 65535 * (65535 * 512)
 
 -- The window spans the reports from `first` up to but not including `past`: the minutes between those two, and the records that it
 -- holds. None of the reports before `past` is v minutes or more after report `first`.

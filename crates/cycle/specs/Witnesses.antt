@@ -1,4 +1,5 @@
--- What a refusal of the check shows, for every cycle. Proved in proofs/CyclesPassed.antt. No function and no demand rests on it.
+-- What a refusal of the check shows, for every cycle. Proved in proofs/CyclesPassed.antt. No function rests on it; `shown_15` and
+-- `shown_16` of the demands' page rest on the last two.
 use Rattle.std.specs.Prelude.{ℕ, ◌<◌, ◌≡◌, List, false, length}
 use Rattle.spec.specs.declared.Spec.{Spec}
 use Rattle.spec.specs.Limits.{size_allowed, gap_allowed}

@@ -2,11 +2,14 @@
 // the endless repetition with two ends that only go forward, and counts whole rounds by a product, so its work is linear in the
 // number of pairs however short a round is (`stretches`). No pair is written anywhere: the stretches lie on the one round that is lent.
 // A cycle whose reports may be late (26 after 24) gets the same check, against the specification that its planned minutes must meet (the
-// crate `lateness`). What pairs are is the crate `pairs`', their file another's; the C calls over a lent list of pairs, which unpack it
-// and call `check_late`, are exported by `maxeltu`.
+// crate `lateness`). With a 15 or a 16 of the check on time goes the shortest stretch that shows it (`shortest`). What pairs are is the crate
+// `pairs`', their file another's; the C calls over a lent list of pairs, which unpack it and call `check_late` or `shortest_stretch`, are
+// exported by `maxeltu`.
 #![tactic(auto)]
 
+mod shortest;
 mod stretches;
+mod windows;
 
 ghost use Rattle.std.specs.Prelude.{◌≡◌};
 ghost use Rattle.spec.specs.File.{read_spec};
@@ -14,21 +17,23 @@ ghost use Rattle.spec.specs.Refusals.{answer_number};
 ghost use Rattle.pairs.specs.Pairs.{pairs_of};
 ghost use Rattle.cycle.specs.Check.{gaps_allowed, sizes_allowed, cycle_number, check_number};
 ghost use Rattle.cycle.specs.LateCheck.{late_number, late_file_number};
+ghost use Rattle.cycle.specs.Shortest.{shortest_stretch};
 ghost use Rattle.cycle.specs.Windows.{pairs_in, Judges};
+ghost use Rattle.cycle.specs.declared.windows.Measure.TheVariants.{Minutes};
 
 use spec::Spec;
 use spec::refusal::Refusal;
-use stretches::Cycle;
+use windows::{Cycle, Measure};
 
 // Whether the gap of every pair is in a range of gaps, and whether its size is in that of sizes.
 fn gaps_allowed(spec: Spec, pairs: &[[u16; 2]]) -> bool
-    ensures { result ≡ gaps_allowed spec (pairs_in pairs.now) }
+    ensures { result ≡ gaps_allowed spec (pairs_in Minutes pairs.now) }
 {
     pairs.iter().all(|&[gap, _]| spec.allows_gap(gap))
 }
 
 fn sizes_allowed(spec: Spec, pairs: &[[u16; 2]]) -> bool
-    ensures { result ≡ sizes_allowed spec (pairs_in pairs.now) }
+    ensures { result ≡ sizes_allowed spec (pairs_in Minutes pairs.now) }
 {
     pairs.iter().all(|&[_, size]| spec.allows_size(size))
 }
@@ -37,7 +42,7 @@ fn sizes_allowed(spec: Spec, pairs: &[[u16; 2]]) -> bool
 #[tactic(auto, using(crate::proofs::Chunks::length_pairs_in), unfolding(crate::specs::Check::cycle_number, crate::specs::Check::first_refusal))]
 fn check_pairs(spec: Spec, pairs: &[[u16; 2]]) -> Result<(), Refusal>
     requires { Judges spec }
-    ensures { answer_number result ≡ cycle_number spec (pairs_in pairs.now) }
+    ensures { answer_number result ≡ cycle_number spec (pairs_in Minutes pairs.now) }
 {
     if !pairs::count_in(pairs.len()) {
         return Err(Refusal::Count);
@@ -48,7 +53,10 @@ fn check_pairs(spec: Spec, pairs: &[[u16; 2]]) -> Result<(), Refusal>
     if !sizes_allowed(spec, pairs) {
         return Err(Refusal::Size);
     }
-    let cycle = Cycle { pairs };
+    let cycle = Cycle {
+        pairs,
+        by: Measure::Minutes,
+    };
     if !cycle.keeps_supply(spec.supply) {
         return Err(Refusal::TooFull);
     }
@@ -80,4 +88,38 @@ pub fn check_late_file(spec_bytes: &[u8], words: &[u16], lateness: u32) -> Resul
 {
     let spec = spec::read_spec(spec_bytes)?;
     check_late(spec, words, lateness)
+}
+
+// Reports in a row of the endless run.
+#[derive(Clone, Copy, Debug, PartialEq, Eq)]
+pub struct Row {
+    // The number of the first of them, for 16 that of the report just before them.
+    pub first: u32,
+    // How many they are.
+    pub reports: u32,
+}
+
+// A check's answer and, where it is 15 or 16, the shortest stretch that shows it.
+#[derive(Clone, Copy, Debug, PartialEq, Eq)]
+pub struct Judged {
+    pub answer: Result<(), Refusal>,
+    pub stretch: Option<Row>,
+}
+
+// The check of a cycle that is held flat, and what to send back with its refusal.
+pub fn shortest_stretch(spec: Spec, words: &[u16]) -> Judged
+    ensures answer { answer_number result.answer ≡ check_number spec (pairs_of words.now) }
+    ensures stretch { result.stretch ≡ shortest_stretch spec (pairs_of words.now) }
+{
+    let answer = check(spec, words);
+    let pairs = words.as_chunks::<2>().0;
+    let stretch = match answer {
+        Ok(_) => None,
+        Err(refusal) => match refusal {
+            Refusal::TooFull => shortest::full_row(spec.supply, pairs),
+            Refusal::TooThin => shortest::thin_row(spec.demand, pairs),
+            _ => None,
+        },
+    };
+    Judged { answer, stretch }
 }

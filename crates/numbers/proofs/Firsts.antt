@@ -27,3 +27,14 @@ first_right f (suc n) i k a b e = pick (f i) refl (first_right f n (i + 1) k)
         λ j p q. elim (ℕ_discrete i j) [ yes z ↦ absurd (not_both (f i) (rw (← z) at q) h) | no z ↦ omega arith ] in
         let r = ih (later k a e) (omega arith) e in
         record { from = omega (arith, r.from); passes = r.passes; least = λ j p q. r.least j (later j p q) q }
+
+-- what is found among them passes
+pub first_passes : (f : ℕ → Bool) (n i : ℕ) → first f n i < i + n → f (first f n i) ≡ true
+unfolding first
+first_passes f zero i h = absurd (omega arith)
+first_passes f (suc n) i h = pick (f i) refl h (first_passes f n (i + 1))
+  where
+    pick : (t : Bool) → f i ≡ t → elim t [ true ↦ i | false ↦ first f n (i + 1) ] < i + suc n → (first f n (i + 1) < i + 1 + n → f (first f n (i + 1)) ≡ true)
+        → f (elim t [ true ↦ i | false ↦ first f n (i + 1) ]) ≡ true
+    pick true e h ih = e
+    pick false e h ih = ih (omega (arith, h))

@@ -13,7 +13,7 @@ use Rattle.numbers.specs.Numbers.{ceil}
 use Rattle.numbers.proofs.Cases.{lt_cases}
 use Rattle.numbers.proofs.Ceilings.{lt_ceil_iff}
 use Rattle.schedule.specs.Schedules.{Schedule, sum, minute, stretch}
-use Rattle.schedule.proofs.Sums.{sum_none, sum_more, sum_block, block, block_add, block_one, block_least, block_part}
+use Rattle.schedule.proofs.Sums.{sum_none, sum_more, sum_block, block, block_add, block_one, block_least, block_part, sum_add}
 use Rattle.schedule.proofs.Stretches.{stretch_block}
 
 -- how many reports lie before minute m, counted among the first m: where no gap is 0, report i is at minute i or later
@@ -28,6 +28,11 @@ module _ (s : Schedule) where
   pub minute_more : (i : ℕ) → minute s (i + 1) ≡ minute s i + s.gap i
   unfolding minute
   minute_more i = sum_more s.gap i
+
+  -- the minutes from report i to the one n reports later
+  pub minute_add : (i n : ℕ) → minute s (i + n) ≡ minute s i + block s.gap i n
+  unfolding minute
+  minute_add i n = sum_add s.gap i n
 
   pub minute_later : (i n : ℕ) → minute s i ≤ minute s (i + n)
   minute_later i zero = rw add-zero (omega arith)

@@ -53,7 +53,7 @@ module _ (s : Schedule) (later : (i : ℕ) → 1 ≤ s.gap i) (c : ℕ) (size_ag
   stretch_first a w =
       ap (λ (x : ℕ). stretch s x w) (sym (mod-add-div' a (minute s c))) ∙ stretch_rounds (a % minute s c) (a / minute s c) w
 
-  stretch_more : (a q w : ℕ) → stretch s a (q * minute s c + w) ≡ q * sum s.size c + stretch s a w
+  pub stretch_more : (a q w : ℕ) → stretch s a (q * minute s c + w) ≡ q * sum s.size c + stretch s a w
   stretch_more a zero w = rw (zero-mul, zero-mul, zero-add, zero-add)
   stretch_more a (suc q) w =
       let n : suc q * minute s c + w ≡ minute s c + (q * minute s c + w) = rw suc-mul (omega arith) in
@@ -63,14 +63,6 @@ module _ (s : Schedule) (later : (i : ℕ) → 1 ≤ s.gap i) (c : ℕ) (size_ag
   -- a stretch holds its whole rounds times the records of a round, and what the minutes left over hold
   pub stretch_whole : (a w : ℕ) → stretch s a w ≡ w / minute s c * sum s.size c + stretch s a (w % minute s c)
   stretch_whole a w = ap (stretch s a) (sym (div-add-mod' w (minute s c))) ∙ stretch_more a (w / minute s c) (w % minute s c)
-
-  -- The whole rounds of all minutes but the last one: 1 minute to one round is then left over.
-  pub stretch_parts : (a w : ℕ) → 1 ≤ w → stretch s a w ≡ (w - 1) / minute s c * sum s.size c + stretch s a ((w - 1) % minute s c + 1)
-  stretch_parts a w h =
-      let r = (w - 1) % minute s c in
-      let q = (w - 1) / minute s c in
-      let e : w ≡ q * minute s c + (r + 1) = omega (arith, div-add-mod' (w - 1) (minute s c)) in
-      ap (stretch s a) e ∙ stretch_more a q (r + 1)
 
   module _ (some : 0 < c) where
     -- the supply rule need be shown only at the reports of one round

@@ -4,7 +4,7 @@ use Prim.Native.Nat.{ℕ, zero, suc, ◌+◌, ◌-◌, ◌*◌, ◌/◌, ◌%◌
 use native.Mathlib.Omega.{arith}
 use native.Mathlib.Nat.{add_assoc, add-zero, zero-add, add_comm, add_right_comm, suc-mul, zero-mul, mod-add-div'}
 use native.Mathlib.Numerals.{add-one}
-use mathlib.Core.Path.{◌≡◌, refl, ◌∙◌}
+use mathlib.Core.Path.{◌≡◌, refl, sym, ◌∙◌, ap}
 use mathlib.Core.Logic.{⊎_elim}
 use Rattle.numbers.proofs.Cases.{lt_cases}
 -- for the crates above, which take it from here
@@ -66,6 +66,11 @@ module _ (f : ℕ → ℕ) where
       let e : n ≡ m + (n - m) = omega arith in
       rw e (omega (arith, block_add lo m (n - m)))
 
+  -- one that holds something has some part
+  pub block_some : (lo n b : ℕ) → b < block f lo n → 0 < n
+  block_some lo zero b h = absurd (omega (arith, block_none lo))
+  block_some lo (suc n) b h = omega arith
+
   -- of q blocks of n laid end to end, one holds more than b where all together hold more than q × b, and one less where they hold less
   pub one_fuller : (b n q lo : ℕ) → q * b < block f lo (q * n) → (i : ℕ) × (b < block f i n)
   one_fuller b n zero lo h = absurd (let k = rw (zero-mul, zero-mul, block_none lo) at h in omega arith)
@@ -101,6 +106,19 @@ sum_rounds f c h i (suc u) = rw (suc-mul, suc-mul, ← add_assoc i (u * c) c, su
 -- a block of one round holds what the first round does
 pub block_round : (f : ℕ → ℕ) (c : ℕ) → ((i : ℕ) → f (i + c) ≡ f i) → (i : ℕ) → block f i c ≡ sum f c
 block_round f c h i = omega (arith, sum_add f i c, sum_again f c h i)
+
+pub rounds_again : (f : ℕ → ℕ) (c : ℕ) → ((i : ℕ) → f (i + c) ≡ f i) → (i q : ℕ) → f (i + q * c) ≡ f i
+rounds_again f c h i zero = rw (zero-mul, add-zero)
+rounds_again f c h i (suc q) = rw (suc-mul, ← add_assoc i (q * c) c, h (i + q * c)) (rounds_again f c h i q)
+
+-- a block that starts in a later round holds what it holds in the first
+pub block_turned : (f : ℕ → ℕ) (c : ℕ) → ((i : ℕ) → f (i + c) ≡ f i) → (i d n : ℕ) → block f (i % c + d) n ≡ block f (i + d) n
+unfolding block
+block_turned f c h i d n =
+    sum_same _ _ n
+    (λ j q.
+    let z : i % c + d + j + i / c * c ≡ i + d + j = omega (arith, mod-add-div' i c) in
+    sym (rounds_again f c h (i % c + d + j) (i / c)) ∙ ap f z)
 
 -- n / c whole rounds, and what is left
 pub sum_whole : (f : ℕ → ℕ) (c : ℕ) → ((i : ℕ) → f (i + c) ≡ f i) → InRounds c (sum f)

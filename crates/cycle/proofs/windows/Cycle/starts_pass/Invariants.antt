@@ -8,13 +8,13 @@ use mathlib.Core.Bool.{true}
 use lib.ListN.{length}
 use Rattle.schedule.specs.Schedules.{minute, stretch}
 use Rattle.cycle.specs.Windows.{run_in, Spans, rule_passes}
-use Rattle.cycle.proofs.stretches.Cycle.starts_pass.Given as goal
+use Rattle.cycle.proofs.windows.Cycle.starts_pass.Given as goal
 
 abbrev pub invariant-loop-w : goal.invariant-loop-w
 invariant-loop-w l = record {
   inside : l.w.first ≤ length l.self.pairs.now;
-  spans : Spans (run_in l.self.pairs.now) l.parts.rest l.w;
-  passed : (i : ℕ) → i < l.w.first → rule_passes l.rule (stretch (run_in l.self.pairs.now) (minute (run_in l.self.pairs.now) i) l.minutes) ((run_in l.self.pairs.now).size i) ≡ true;
+  spans : Spans (run_in l.self.by l.self.pairs.now) l.parts.rest l.w;
+  passed : (i : ℕ) → i < l.w.first → rule_passes l.rule (stretch (run_in l.self.by l.self.pairs.now) (minute (run_in l.self.by l.self.pairs.now) i) l.minutes) ((run_in l.self.by l.self.pairs.now).size i) ≡ true;
 }
 
 abbrev pub decreases-loop-w : goal.decreases-loop-w

@@ -4,10 +4,10 @@
 use Prim.Native.Nat.{◌-◌}
 use mathlib.Core.Path.{◌≡◌}
 use Rattle.cycle.specs.Windows.{run_in, Spans}
-use Rattle.cycle.proofs.stretches.Cycle.filled.Given as goal
+use Rattle.cycle.proofs.windows.Cycle.filled.Given as goal
 
 abbrev pub invariant-loop-w : goal.invariant-loop-w
-invariant-loop-w l = (l.w.first ≡ l.initial.w.first) × Spans (run_in l.self.pairs.now) l.v l.w
+invariant-loop-w l = (l.w.first ≡ l.initial.w.first) × Spans (run_in l.self.by l.self.pairs.now) l.v l.w
 
 abbrev pub decreases-loop-w : goal.decreases-loop-w
 decreases-loop-w l = l.v - l.w.minutes
