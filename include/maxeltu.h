@@ -15,9 +15,10 @@
  *    answers MAXELTU_SPEC_MAP, _LENGTH, _LIMITS, _ORDER or _RANGES (1 to 4 or
  *    24, in that order) before anything else.
  *  - What a pointer parameter is called to hand back is written only where the
- *    answer is 0, `condition` only where it is MAXELTU_INCONSISTENT, and `left`
- *    after every offer to a meter with a supply rate, refused ones too. In every
- *    other case the place behind it keeps what it held.
+ *    answer is 0, `condition` only where it is MAXELTU_INCONSISTENT, `first` and
+ *    `reports` of a shortest stretch only where it is MAXELTU_TOO_FULL or _TOO_THIN,
+ *    and `left` after every offer to a meter with a supply rate, refused ones too.
+ *    In every other case the place behind it keeps what it held.
  *  - No pointer may be null. For an empty list or empty bytes (length 0) pass
  *    any pointer that is not null; nothing is read or written behind it. (A null
  *    pointer with length 0 is taken for an empty list or empty bytes by this
@@ -382,6 +383,30 @@ uint32_t maxeltu_check_cycle(const uint8_t *spec, size_t spec_len,
 uint32_t maxeltu_check_late(const uint8_t *spec, size_t spec_len,
                             const struct maxeltu_pair *pairs, size_t count,
                             uint32_t lateness);
+
+/*
+ * Checks a cycle as maxeltu_check_cycle does and, where that answers 15 or 16, finds
+ * the least that shows it: the shortest stretch to send back. Reports are numbered
+ * over the endless repetition, from 0: report i is that of pair i % count.
+ *
+ * For 15: the fewest reports in a row of which the first and the last are less than
+ * R minutes apart and which hold more than B. They are the reports *first to
+ * *first + *reports - 1.
+ * For 16: the fewest reports that lie between two reports more than P minutes apart
+ * and hold less than L. The first of the two is report *first; between them lie the
+ * reports *first + 1 to *first + *reports, none where *reports is 0.
+ * Wherever else in the endless repetition reports show it, they are as many or more;
+ * of those that are as many, these have the lowest number. *first is below count;
+ * *reports may be above it, at most 20,001.
+ *
+ * Answers what maxeltu_check_cycle does.
+ * Reads `count` pairs; of more than 512, none. Looks at each pair a fixed number of
+ * times at most.
+ * Writes *first and *reports, only where the answer is 15 or 16.
+ */
+uint32_t maxeltu_shortest_stretch(const uint8_t *spec, size_t spec_len,
+                                  const struct maxeltu_pair *pairs, size_t count,
+                                  uint32_t *first, uint32_t *reports);
 
 /*
  * What the first `reports` reports of a cycle's endless repetition cost, by the

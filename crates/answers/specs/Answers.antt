@@ -1,10 +1,11 @@
 -- Document 01, "The shape of some places": "When an answer is an enum, the promises use a definition that gives this paper's number
 -- and values for each case."
-use Rattle.std.specs.Prelude.{ℕ, cond, List, [], ◌∷◌, eqb, get_or, Result, Ok, Err}
+use Rattle.std.specs.Prelude.{ℕ, cond, List, [], ◌∷◌, eqb, get_or, Option, None, Some, Result, Ok, Err}
 use Rattle.plan.specs.declared.Plan.{Plan}
 use Rattle.plan.specs.declared.Report.{Report}
 use Rattle.plan.specs.declared.moments.Contents.{Contents}
 use Rattle.plan.specs.Plans.{plan_numbers}
+use Rattle.cycle.specs.declared.Row.{Row}
 use Rattle.cost.specs.declared.Bill.{Bill}
 use Rattle.consistency.specs.declared.Condition.{Condition}
 use Rattle.consistency.specs.declared.Condition.TheVariants.{BoundsFitRates, FewestReportsFitBudget, EnoughReportsForDemand, SupplyCoversDemand}
@@ -72,6 +73,14 @@ abbrev pub bill_answer : Result Bill ℕ → Answer
 bill_answer (Ok x) = yields (x.tenths ∷ x.cents ∷ [])
 bill_answer (Err n) = refusal n
 
+-- the number of a check and, with 15 and 16, the row that shows it: its first report's number, how many reports (document 02, Req 14)
+abbrev pub row_values : Option Row → List ℕ
+row_values None = []
+row_values (Some row) = row.first ∷ row.reports ∷ []
+
+abbrev pub judged_answer : ℕ → Option Row → Answer
+judged_answer n stretch = record { number = n; values = row_values stretch }
+
 -- 1 the first of two dated files, 2 the second
 abbrev pub which_file : InForce → ℕ
 which_file First = 1
@@ -91,3 +100,7 @@ value_answer (Err n) = refusal n
 -- What a lent place holds after a call: value i of the answer where the answer's number is `when`, else what it held.
 unfoldable pub held_after : (when i : ℕ) → Answer → ℕ → ℕ
 held_after when i answer held = cond (eqb answer.number when) (get_or answer.values i held) held
+
+-- the same where values go with more than one number, as with 15 and 16: value i, where the answer has one
+unfoldable pub held_or_value : (i : ℕ) → Answer → ℕ → ℕ
+held_or_value i answer held = get_or answer.values i held

@@ -1,21 +1,23 @@
 // What each operation's answer is in numbers, as the C calls hand it out: the number of the refusal or 0, and the values, each stored in
-// a lent place where there is one to tell. No place is written on a refusal, but for the condition of an inconsistent specification. Each kind
-// of answer has places of its own: one function for all would have to be told which value goes where, and be no plainer.
+// a lent place where there is one to tell. No place is written on a refusal, but for the condition of an inconsistent specification
+// and the stretch that shows a 15 or a 16. Each kind of answer has places of its own: one function for all would have to be told which
+// value goes where, and be no plainer.
 #![tactic(auto)]
 
 ghost use Rattle.std.specs.Prelude.{◌≡◌};
 ghost use Rattle.std.specs.Result.{result_unwrap_or};
 ghost use Rattle.spec.specs.Refusals.{numbered, answer_number};
 ghost use Rattle.consistency.specs.Consistency.{told};
-ghost use Rattle.answers.specs.Answers.{condition_number, consistency_answer, scheduled_answer, tested_answer, even_answer, report_answer, contents_answer, bill_answer, in_force_answer, held_after};
+ghost use Rattle.answers.specs.Answers.{condition_number, consistency_answer, scheduled_answer, tested_answer, even_answer, report_answer, contents_answer, bill_answer, judged_answer, in_force_answer, held_after, held_or_value};
 
 use consistency::{Condition, Unfit};
 use cost::Bill;
+use cycle::Judged;
 use dated::InForce;
 use families::Scheduled;
 use plan::moments::Contents;
 use plan::{Plan, Report};
-use spec::refusal::Refusal;
+use spec::refusal::{Refusal, answer_number};
 
 // 3 to 6, as document 01 numbers the conditions.
 pub fn condition_number(c: Condition) -> u32
@@ -171,6 +173,20 @@ pub fn bill_answer(found: Result<Bill, Refusal>, tenths: &mut u64, cents: &mut u
         }
         Err(refusal) => refusal.number(),
     }
+}
+
+// The row is stored beside the number of the refusal that it shows.
+#[tactic(auto, unfolding(crate::specs::Answers::held_or_value))]
+pub fn judged_answer(found: Judged, first: &mut u32, reports: &mut u32) -> u32
+    ensures number { result ≡ (judged_answer (answer_number found.answer) found.stretch).number }
+    ensures first { first.new ≡ held_or_value 0 (judged_answer (answer_number found.answer) found.stretch) first.old }
+    ensures reports { reports.new ≡ held_or_value 1 (judged_answer (answer_number found.answer) found.stretch) reports.old }
+{
+    if let Some(row) = found.stretch {
+        *first = row.first;
+        *reports = row.reports;
+    }
+    answer_number(found.answer)
 }
 
 #[tactic(auto, unfolding(crate::specs::Answers::held_after), using(crate::proofs::Places::after_refusal))]

@@ -13,11 +13,13 @@ use Rattle.families.specs.Families.{schedule_for}
 use Rattle.feasibility.specs.Test.{test_of}
 use Rattle.even.specs.Even.{even_plan}
 use Rattle.pairs.specs.declared.Pair.{Pair}
+use Rattle.cycle.specs.Check.{check_number}
+use Rattle.cycle.specs.Shortest.{shortest_stretch}
 use Rattle.cost.specs.Bills.{plan_bill, cycle_bill}
 use Rattle.normal.specs.Answers.{normalised}
 use Rattle.dated.specs.InForce.{in_force}
 use Rattle.duty.specs.Minutes.{calendar_of, duty_of, table_of}
-use Rattle.answers.specs.Answers.{Answer, refusal, consistency_answer, scheduled_answer, tested_answer, even_answer, report_answer, contents_answer, bill_answer, in_force_answer, value_answer}
+use Rattle.answers.specs.Answers.{Answer, refusal, consistency_answer, scheduled_answer, tested_answer, even_answer, report_answer, contents_answer, bill_answer, judged_answer, in_force_answer, value_answer}
 
 unfoldable pub consistency_call : List ℕ → Answer
 consistency_call bytes = if_read (read_spec bytes) (λ s. consistency_answer (consistency_of s)) refusal
@@ -61,6 +63,10 @@ plan_cost_call kind k π δ reports = if_named (plan_named kind k π δ) (λ p. 
 
 unfoldable pub cycle_cost_call : List ℕ → List Pair → (reports : ℕ) → Answer
 cycle_cost_call bytes ps reports = if_read (read_spec bytes) (λ s. bill_answer (cycle_bill s ps reports)) refusal
+
+-- the check of a list of pairs, with the shortest stretch that shows a 15 or a 16
+unfoldable pub stretch_call : List ℕ → List Pair → Answer
+stretch_call bytes ps = if_read (read_spec bytes) (λ s. judged_answer (check_number s ps) (shortest_stretch s ps)) refusal
 
 -- the normal form of a list of pairs, for a lent list of so many places
 unfoldable pub normal_call : List Pair → (places : ℕ) → Answer

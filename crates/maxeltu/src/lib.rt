@@ -1,6 +1,6 @@
 // What others call: the loader's call and the C interface of include/maxeltu.h, thin over the crates below. Every call answers 0 or the
 // number of the refusal; a lent place is written only where the answer is 0, the condition of an inconsistent specification only where it
-// is 7, and the budget left after every offer to a meter that has one to tell.
+// is 7, the two places of a shortest stretch only where it is 15 or 16, and the budget left after every offer to a meter that has one to tell.
 // A call that plans, tests, checks or bills goes on from the reader's answer by `let .. else`, and from a plan that is named likewise: the form
 // that document 01 asks for. A plan comes as four numbers, as C has them. A call that checks, bills, reads or writes a cycle has 1,024
 // words of its own, what 512 pairs take, since a box has no heap; a normal form is found where the pairs lie.
@@ -17,9 +17,9 @@ ghost use Rattle.normal.specs.Answers.{places_after};
 ghost use Rattle.meter.specs.Ring.{fresh, stepped, told_or};
 ghost use Rattle.duty.specs.Weeks.{table_number};
 ghost use Rattle.duty.specs.Minutes.{table_of};
-ghost use Rattle.answers.specs.Answers.{held_after};
+ghost use Rattle.answers.specs.Answers.{held_after, held_or_value};
 ghost use Rattle.maxeltu.specs.Verdict.{verdict_of};
-ghost use Rattle.maxeltu.specs.Calls.{consistency_call, schedule_call, test_call, even_call, plan_named, report_call, last_call, nearest_call, between_call, plan_cost_call, cycle_cost_call, normal_call, in_force_call, calendar_call, duty_call};
+ghost use Rattle.maxeltu.specs.Calls.{consistency_call, schedule_call, test_call, even_call, plan_named, report_call, last_call, nearest_call, between_call, stretch_call, plan_cost_call, cycle_cost_call, normal_call, in_force_call, calendar_call, duty_call};
 
 use cyclefile::reading;
 use families::Family;
@@ -304,6 +304,27 @@ pub fn maxeltu_check_late(spec_bytes: &[u8], pairs: &[Pair], lateness: u32) -> u
     let mut words = [0u16; 1024];
     let used = pairs::unpack(pairs, &mut words);
     answer_number(cycle::check_late(s, &words[..used], lateness))
+}
+
+// The same check on time, with the shortest stretch that shows a 15 or a 16.
+#[tactic(auto, unfolding(crate::specs::Calls::stretch_call, answers::specs::Answers::held_or_value))]
+pub fn maxeltu_shortest_stretch(
+    spec_bytes: &[u8],
+    pairs: &[Pair],
+    first: &mut u32,
+    reports: &mut u32,
+) -> u32
+    ensures { (result ≡ (stretch_call spec_bytes.now pairs.now).number)
+        × (first.new ≡ held_or_value 0 (stretch_call spec_bytes.now pairs.now) first.old)
+        × (reports.new ≡ held_or_value 1 (stretch_call spec_bytes.now pairs.now) reports.old) }
+{
+    let read = spec::read_spec(spec_bytes);
+    let Ok(s) = read else {
+        return answer_number(read);
+    };
+    let mut words = [0u16; 1024];
+    let used = pairs::unpack(pairs, &mut words);
+    answers::judged_answer(cycle::shortest_stretch(s, &words[..used]), first, reports)
 }
 
 // What the first reports of a lent list of pairs cost, against a specification's file. The list is unpacked once.

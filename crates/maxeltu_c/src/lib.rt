@@ -13,9 +13,9 @@ ghost use Rattle.normal.specs.Answers.{places_after};
 ghost use Rattle.meter.specs.Ring.{fresh, stepped, told_or};
 ghost use Rattle.duty.specs.Weeks.{table_number};
 ghost use Rattle.duty.specs.Minutes.{table_of};
-ghost use Rattle.answers.specs.Answers.{held_after};
+ghost use Rattle.answers.specs.Answers.{held_after, held_or_value};
 ghost use Rattle.maxeltu.specs.Verdict.{verdict_of};
-ghost use Rattle.maxeltu.specs.Calls.{consistency_call, schedule_call, test_call, even_call, plan_named, report_call, last_call, nearest_call, between_call, plan_cost_call, cycle_cost_call, normal_call, in_force_call, calendar_call, duty_call};
+ghost use Rattle.maxeltu.specs.Calls.{consistency_call, schedule_call, test_call, even_call, plan_named, report_call, last_call, nearest_call, between_call, stretch_call, plan_cost_call, cycle_cost_call, normal_call, in_force_call, calendar_call, duty_call};
 
 use meter::Meter;
 use pairs::Pair;
@@ -209,6 +209,21 @@ pub extern "C" fn maxeltu_check_late(spec_bytes: &[u8], pairs: &[Pair], lateness
     ensures { result ≡ late_file_number (read_spec spec_bytes.now) lateness pairs.now }
 {
     maxeltu::maxeltu_check_late(spec_bytes, pairs, lateness)
+}
+
+// The same check on time, with the shortest stretch that shows a 15 or a 16.
+#[unsafe(no_mangle)]
+pub extern "C" fn maxeltu_shortest_stretch(
+    spec_bytes: &[u8],
+    pairs: &[Pair],
+    first: &mut u32,
+    reports: &mut u32,
+) -> u32
+    ensures { (result ≡ (stretch_call spec_bytes.now pairs.now).number)
+        × (first.new ≡ held_or_value 0 (stretch_call spec_bytes.now pairs.now) first.old)
+        × (reports.new ≡ held_or_value 1 (stretch_call spec_bytes.now pairs.now) reports.old) }
+{
+    maxeltu::maxeltu_shortest_stretch(spec_bytes, pairs, first, reports)
 }
 
 // What the first reports of a lent list of pairs cost, against a specification's file. The list is unpacked once.
