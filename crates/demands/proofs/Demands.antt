@@ -46,6 +46,9 @@ use Rattle.cycle.proofs.CyclesPassed.{passed_obeys}
 use Rattle.cycle.proofs.Planned.{on_time_same}
 use Rattle.cycle.proofs.LatePassed.{late_passed, late_gap, late_size, late_full, late_thin, too_late, late_less}
 use Rattle.cycle.proofs.Rounds.{whole_rounds}
+use Rattle.cycle.proofs.Runs.{gaps_later}
+use Rattle.cycle.proofs.Shown.{full_shown, thin_shown}
+use Rattle.cycle.proofs.SentBack.{shown_15, shown_16, none_shown}
 use Rattle.cost.proofs.Rounds.{plan_in_rounds, cycle_in_rounds}
 use Rattle.cost.proofs.Billing.{plan_billed, plan_in_bands, cycle_billed, cycle_in_bands}
 use Rattle.cyclefile.specs.File.{cycle_bytes, read_cycle, write_number, Reads, bytes_after}
@@ -242,6 +245,11 @@ demands = record {
   normal_number = λ s lateness c some few. (check_same c some few s, late_same c some few s lateness);
   normal_file_number = λ spec lateness c some few.
       (check_file_same c some few (read_spec spec), late_file_same c some few (read_spec spec) lateness, loaded_same spec c some few);
+  rows_too_full = λ x c some no_gap_0. full_shown c some (gaps_later c some no_gap_0) x;
+  rows_too_thin = λ x c some no_gap_0. thin_shown c some (gaps_later c some no_gap_0) x;
+  shown_15 = shown_15;
+  shown_16 = shown_16;
+  none_shown = none_shown;
   test_obeys = test_sound;
   even_obeys = even_plan_obeys;
   even_refused = even_plan_refused;

@@ -3,6 +3,7 @@
 use Rattle.std.specs.Prelude.{ℕ, ◌+◌, ◌-◌, ◌*◌, ◌/◌, ◌%◌, ◌≤◌, ◌<◌, ◌≡◌, ◌↔◌, ◌⊎◌, true, false, List, [], ◌++◌, length, take, get_or, None, Some, Ok, Err}
 use Rattle.numbers.specs.Numbers.{ceil}
 use Rattle.spec.specs.declared.Spec.{Spec}
+use Rattle.spec.specs.declared.Rate.{Rate}
 use Rattle.spec.specs.declared.Rates.{Rates}
 use Rattle.spec.specs.Rates.{HasTwoRanges, both_rates}
 use Rattle.spec.specs.Limits.{rate_of, range_of, limits, order, spec_number, IsAccepted, gap_allowed}
@@ -32,6 +33,7 @@ use Rattle.pairs.specs.declared.Pair.{Pair}
 use Rattle.cycle.specs.Cycles.{pair_gap, cycle_run, round, round_records}
 use Rattle.cycle.specs.Check.{check_number, check_file_number}
 use Rattle.cycle.specs.LateCheck.{late_number, late_file_number}
+use Rattle.cycle.specs.Shortest.{shows_full, shows_thin, shortest_stretch, IsGiven}
 use Rattle.normal.specs.Normal.{in_order, normal_form}
 use Rattle.normal.specs.Answers.{normalised, places_after}
 use Rattle.cost.specs.Prices.{charge, FirstBand, tenths, cents}
@@ -77,7 +79,7 @@ pub record KeptOnDuty (table : Table) (s : Spec) (t : Schedule) : Type 0 where
   pub duty_rules : Obeys s t
 
 pub record Demands : Type 0 where
-  -- 1. Any bytes handed in, of any length, are read to their contents or to the numbered refusal. A refusal writes to no lent place.
+  -- 1. Any bytes handed in, of any length, are read to their contents or to the numbered refusal. A refusal writes to no lent list or bytes.
 
   pub specification_read : (bytes : List ℕ)
       → ((s : Spec) × ((read_spec bytes ≡ Ok s) × IsAccepted s))
@@ -295,6 +297,19 @@ pub record Demands : Type 0 where
       → (check_file_number (read_spec spec) (normal_form c) ≡ check_file_number (read_spec spec) c)
       × (late_file_number (read_spec spec) lateness (normal_form c) ≡ late_file_number (read_spec spec) lateness c)
       × (verdict_of spec (cycle_bytes (normal_form c)) ≡ verdict_of spec (cycle_bytes c))
+  -- The shortest stretch to send back (document 02, Req 14). Of a cycle with no gap 0, some R minutes hold more than B exactly when some reports in
+  -- a row do whose first and last are less than R minutes apart; some P minutes hold less than L exactly when the reports between some two do
+  -- that are more than P minutes apart.
+  pub rows_too_full : (x : Rate) (c : List Pair) → 1 ≤ length c → ((j : ℕ) → j < length c → 1 ≤ pair_gap c j)
+      → TooFull (Some x) (stretch (cycle_run c)) ↔ ((i : ℕ) × ((n : ℕ) × (shows_full x (cycle_run c) i n ≡ true)))
+  pub rows_too_thin : (x : Rate) (c : List Pair) → 1 ≤ length c → ((j : ℕ) → j < length c → 1 ≤ pair_gap c j)
+      → TooThin (Some x) (stretch (cycle_run c)) ↔ ((i : ℕ) × ((n : ℕ) × (shows_thin x (cycle_run c) i n ≡ true)))
+  -- Whenever the check says 15 or 16 something is given. It shows the refusal, at that number and with that many reports; every other run that shows
+  -- it, anywhere in the endless run, has at least as many, and none with as many has a lower number; and the number is below the count of pairs.
+  pub shown_15 : (s : Spec) (c : List Pair) → check_number s c ≡ 15 → IsGiven shows_full s.supply c (shortest_stretch s c)
+  pub shown_16 : (s : Spec) (c : List Pair) → check_number s c ≡ 16 → IsGiven shows_thin s.demand c (shortest_stretch s c)
+  -- a cycle with another answer gets just that, and no other does
+  pub none_shown : (s : Spec) (c : List Pair) → (shortest_stretch s c ≡ None) ↔ (¬ (check_number s c ≡ 15) × ¬ (check_number s c ≡ 16))
   -- the endless run of every plan that the test passed obeys them
   pub test_obeys : (s : Spec) (p : Plan) (v : ℕ) → test_of s ≡ Ok (schedule_of p v) → (proper p ≡ true) × Obeys s (run p)
   -- and so does that of every even plan
