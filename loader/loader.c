@@ -7,7 +7,9 @@
  *
  * With MINUTES, a decimal number, each report may arrive up to so many minutes
  * late. With --dated the cycle is that of the file in force of two dated ones, and
- * the loader says first which of them that is.
+ * the loader says first which of them that is. After a refusal 15 or 16 it lists
+ * the fewest reports that show it on time, if any do, to send back to the carrier;
+ * of many, the first and the last.
  *
  * Exit status: 0 the cycle obeys the specification; 1 it is refused; 2 wrong
  * usage, or a file that the system does not hand over.
@@ -147,12 +149,95 @@ static int tell_late(uint32_t refusal, uint32_t minutes)
     return EXIT_REFUSED;
 }
 
+/* A run of reports of a cycle's endless repetition: those from number `first` up to, not including, number `past`. */
+struct run {
+    struct maxeltu_pair pairs[MAXELTU_MAX_PAIRS];
+    uint32_t count, first, past;
+};
+
+/* Minutes from the start of the round: that of report i, which may lie in a later one. */
+static unsigned long minute_of(const struct run *run, uint32_t i)
+{
+    unsigned long minute = 0;
+    for (uint32_t j = 0; j < i; j++)
+        minute += run->pairs[j % run->count].gap;
+    return minute;
+}
+
+static unsigned long records_of(const struct run *run)
+{
+    unsigned long records = 0;
+    for (uint32_t i = run->first; i < run->past; i++)
+        records += run->pairs[i % run->count].size;
+    return records;
+}
+
+/* Of many reports so many at either end get a line. */
+enum { ENDS = 6 };
+
+/* A line for each report, or for those at both ends and one for all between, which takes the place of two lines or more. */
+static void tell_reports(const struct run *run)
+{
+    uint32_t reports = run->past - run->first, left_out = reports > 2 * ENDS + 1 ? reports - 2 * ENDS : 0;
+    unsigned long minute = minute_of(run, run->first);
+    for (uint32_t i = run->first; i < run->past; i++) {
+        const struct maxeltu_pair *pair = &run->pairs[i % run->count];
+        if (left_out == 0 || i < run->first + ENDS || i >= run->past - ENDS)
+            printf("  report %u, minute %lu, size %u\n", (unsigned)i, minute, (unsigned)pair->size);
+        else if (i == run->first + ENDS)
+            printf("  (%u reports more)\n", (unsigned)left_out);
+        minute += pair->gap;
+    }
+}
+
+/* The fewest reports that show a 15, what they hold, and what is allowed. */
+static void tell_full(const struct run *run, unsigned records, unsigned minutes)
+{
+    tell_reports(run);
+    printf("records in minutes %lu to %lu: %lu; allowed in any %u minutes: at most %u\n", minute_of(run, run->first),
+           minute_of(run, run->past - 1), records_of(run), minutes, records);
+}
+
+/* The fewest reports that show a 16, between the two before and after them, what they hold, and what is required. */
+static void tell_thin(const struct run *run, unsigned records, unsigned minutes)
+{
+    unsigned long before = minute_of(run, run->first - 1), after = minute_of(run, run->past);
+    printf("  report %u, minute %lu, is before them\n", (unsigned)run->first - 1, before);
+    tell_reports(run);
+    printf("  report %u, minute %lu, is after them\n", (unsigned)run->past, after);
+    printf("records in minutes %lu to %lu: %lu; required in any %u minutes: at least %u\n", before + 1, after - 1,
+           records_of(run), minutes, records);
+}
+
+/* After a refusal 15 or 16 of a cycle that was read: the least that shows it. Where it takes delays to break the rule, nothing is told, as
+ * no reports show it on time. `when` says so where they might be late. */
+static void tell_stretch(const struct bytes *spec, struct maxeltu_bytes cycle, uint32_t refusal, const char *when)
+{
+    struct run run;
+    uint32_t reports, read = maxeltu_read_cycle(cycle.at, cycle.length, run.pairs, MAXELTU_MAX_PAIRS, &run.count);
+    if (read != MAXELTU_OK ||
+        maxeltu_shortest_stretch(spec->at, spec->length, run.pairs, run.count, &run.first, &reports) != refusal)
+        return;
+    /* The rates stand behind the bit map, the sizes and the gaps, the demand rate behind the supply rate if there is one: bit 2. */
+    bool thin = refusal == MAXELTU_TOO_THIN;
+    const uint8_t *rate = spec->at + (thin && spec->at[0] & 4 ? 13 : 9);
+    unsigned records = rate[0] * 256u + rate[1], minutes = rate[2] * 256u + rate[3];
+    run.first += thin; /* that of a 16 is the report before them */
+    run.past = run.first + reports;
+    printf("the fewest reports that show it%s, with minutes from the start of the round (reports: %u, minutes: %lu):\n", when,
+           (unsigned)run.count, minute_of(&run, run.count));
+    (thin ? tell_thin : tell_full)(&run, records, minutes);
+}
+
 /* Judges a cycle's file. With minutes, 0 too, the answer is told in the words for late reports: so null stands for none. */
 static int judge(const struct bytes *spec, struct maxeltu_bytes cycle, const uint32_t *minutes)
 {
-    if (minutes)
-        return tell_late(late_verdict(spec, cycle, *minutes), *minutes);
-    return tell(maxeltu_verdict(spec->at, spec->length, cycle.at, cycle.length));
+    uint32_t refusal = minutes ? late_verdict(spec, cycle, *minutes)
+                               : maxeltu_verdict(spec->at, spec->length, cycle.at, cycle.length);
+    int status = minutes ? tell_late(refusal, *minutes) : tell(refusal);
+    if (refusal == MAXELTU_TOO_FULL || refusal == MAXELTU_TOO_THIN)
+        tell_stretch(spec, cycle, refusal, minutes ? " on time" : "");
+    return status;
 }
 
 /* Judges the cycle of the file in force. The specification is judged after the choice, which hangs on the two files alone. */

@@ -1,6 +1,7 @@
 -- Document 01, "Samples": those marked ★ as one table, and one proof that the definitions give every value that it prints. The sizes of
 -- B with 15 are those of document 02, Req 02, its offers those of Req 03, and what four reports of it cost that of Req 08; what F gets is
--- that of Req 07; the way back from minutes, of Req 05, the other bills, late reports, of Req 09, normal forms, of Req 12, and F with B = 15 are ours.
+-- that of Req 07; the way back from minutes, of Req 05, the other bills, late reports, of Req 09, normal forms, of Req 12, shortest stretches, of
+-- Req 14, and F with B = 15 are ours.
 use Rattle.std.specs.Prelude.{ℕ, ◌+◌, ◌*◌, ◌≡◌, refl, List, [], ◌∷◌, ◌++◌, Bool, true, false, ◌&&◌, eqb, length, Option, None, Some, Result, Ok, Err}
 use Rattle.spec.specs.declared.Rate.{Rate}
 use Rattle.spec.specs.declared.Range.{Range}
@@ -22,13 +23,14 @@ use Rattle.families.specs.declared.Scheduled.{Scheduled}
 use Rattle.families.specs.Families.{schedule_with, schedule_for, scheduled, exists, plan_for, supply_figure, required, available, least}
 use Rattle.feasibility.specs.Test.{test_of, test_consistent, test_taken, figure_passes, taken, first_count, last_count, taken_from, better_of, is_better, family_of}
 use Rattle.even.specs.Even.{even_plan, plan_or10, even_plan_at, even_gap, largest, fits, supply_fits, demand_fits, total_of, count_at}
-use Rattle.answers.specs.Answers.{Answer, consistency_answer, scheduled_answer, tested_answer, even_answer, value_answer, contents_answer, bill_answer}
+use Rattle.answers.specs.Answers.{Answer, consistency_answer, scheduled_answer, tested_answer, even_answer, value_answer, contents_answer, bill_answer, judged_answer}
 use Rattle.lateness.specs.Lateness.{late_gap_allowed, late_supply, late_demand, lateness_number}
 use Rattle.pairs.specs.declared.Pair.{Pair}
 use Rattle.pairs.specs.Pairs.{flatten}
 use Rattle.cycle.specs.Cycles.{pair_gap, pair_size, cycle_run, round}
 use Rattle.cycle.specs.Check.{check_number, cycle_number, first_refusal, gaps_allowed, sizes_allowed, supply_kept, demand_met}
 use Rattle.cycle.specs.LateCheck.{late_number, late_cycle_number, late_gaps_allowed}
+use Rattle.cycle.specs.Shortest.{shows_full, shows_thin, shortest, shortest_full, shortest_thin, shortest_stretch}
 use Rattle.normal.specs.Normal.{pair_of, repeats, period, row, in_order, comes_first, least_start, normal_form}
 use Rattle.normal.specs.Answers.{normalised}
 use Rattle.cost.specs.declared.Bill.{Bill}
@@ -63,6 +65,8 @@ pub data Claim : Type 0 where
   even_costs : (reports tenths cents : ℕ) → Claim
   cycle_gets : (cycle : List Pair) (number : ℕ) → Claim
   late_gets : (cycle : List Pair) (lateness number : ℕ) → Claim
+  stretch_is : (cycle : List Pair) (number first reports : ℕ) → Claim
+  no_stretch : (cycle : List Pair) (number : ℕ) → Claim
   cycle_costs : (cycle : List Pair) (reports tenths cents : ℕ) → Claim
   cycle_not_billed : (cycle : List Pair) (reports number : ℕ) → Claim
   normal_is : (cycle : List Pair) (places : ℕ) (normal : List Pair) → Claim
@@ -173,6 +177,8 @@ claim_holds s (minimum_demand_costs k n t c) = of_schedule (schedule_for Minimum
 claim_holds s (even_costs n t c) = of_even (even_plan s) (λ p. bill_is (plan_bill p n) t c)
 claim_holds s (cycle_gets c n) = eqb (check_number s c) n
 claim_holds s (late_gets c lateness n) = eqb (late_number s lateness c) n
+claim_holds s (stretch_is c n i reports) = answer_is (judged_answer (check_number s c) (shortest_stretch s c)) n (i ∷ reports ∷ [])
+claim_holds s (no_stretch c n) = answer_is (judged_answer (check_number s c) (shortest_stretch s c)) n []
 claim_holds s (cycle_costs ps n t c) = bill_is (cycle_bill s ps n) t c
 claim_holds s (cycle_not_billed ps n number) = answer_is (bill_answer (cycle_bill s ps n)) number []
 claim_holds s (normal_is c places normal) =
@@ -254,6 +260,13 @@ samples =
     ∷ cycle_costs (cycle 5 (3 ∷ 2 ∷ [])) 5 34 3
     ∷ cycle_gets (cycle 5 (3 ∷ 3 ∷ 2 ∷ 2 ∷ [])) 15
     ∷ cycle_not_billed (cycle 5 (3 ∷ 3 ∷ 2 ∷ 2 ∷ [])) 0 15
+    -- what to send back: 3, 3, 2, 2, 3, 3 in 26 minutes hold 16, begun at the last pair too; four reports between two 25 minutes apart hold 9
+    ∷ stretch_is (cycle 5 (3 ∷ 3 ∷ 2 ∷ 2 ∷ [])) 15 0 6
+    ∷ stretch_is (cycle 5 (3 ∷ 2 ∷ 2 ∷ 3 ∷ [])) 15 3 6
+    ∷ stretch_is (cycle 5 (2 ∷ 2 ∷ 2 ∷ 3 ∷ [])) 16 0 4
+    ∷ no_stretch (cycle 5 (3 ∷ 2 ∷ [])) 0
+    ∷ no_stretch (cycle 6 (3 ∷ 2 ∷ [])) 13
+    ∷ no_stretch [] 12
     ∷ cycle_gets (cycle 5 (2 ∷ 2 ∷ 2 ∷ 3 ∷ [])) 16
     ∷ normal_is (cycle 5 (3 ∷ 2 ∷ [])) 2 (cycle 5 (2 ∷ 3 ∷ []))
     ∷ normal_is (cycle 5 (2 ∷ 3 ∷ 2 ∷ 3 ∷ [])) 2 (cycle 5 (2 ∷ 3 ∷ []))
@@ -323,8 +336,8 @@ samples =
     ∷ late_gets (cycle 4 (1 ∷ [])) 1 16
     ∷ late_gets [] 1440 12
     ∷ late_gets [] 1441 26 ∷ [])
-    -- P minutes of no more than J can be empty
-    ∷ sample 1 9 1 9 9 1 1 3 (late_gets (cycle 4 (9 ∷ [])) 3 16 ∷ [])
+    -- P minutes of no more than J can be empty; so can P minutes between two reports
+    ∷ sample 1 9 1 9 9 1 1 3 (late_gets (cycle 4 (9 ∷ [])) 3 16 ∷ stretch_is (cycle 4 (9 ∷ [])) 16 0 0 ∷ [])
     ∷ []
 
 pub samples_hold : List Sample → Bool
@@ -333,5 +346,5 @@ samples_hold (x ∷ xs) = claims_hold x.spec x.claims && samples_hold xs
 
 -- Every value of the table is what the definitions compute.
 pub samples_hold_lem : samples_hold samples ≡ true
-unfolding samples_hold samples sample sample_with cycle two_rounds offer offered left_is answers_are claims_hold claim_holds same answer_is report_is reports_are well_formed even minute_is between_is bill_is of_schedule of_even same_rate same_range read_to spec_number first_number limits order rate_limits range_limits range_order starts_above in_range size_allowed gap_allowed top_of read_spec if_none second_number one_range_number started sum minute held_from stretch proper run kind_run well_size well_gap even_first even_size report_of if_proper between_of greatest last_report first_least nearest_report reports_from records_from consistency_of conditions_of bounds_fit_rates size_fits_budget gap_fits_demand demand_fits_duration fewest_reports_fit_budget enough_reports_for_demand supply_covers_demand where_there ceil schedule_for both_rates rates_from scheduled exists plan_for supply_figure required available least test_of test_consistent test_taken figure_passes taken first_count last_count schedule_with taken_from better_of is_better family_of even_plan plan_or10 even_plan_at even_gap largest fits supply_fits demand_fits total_of count_at pair_gap pair_size cycle_run round check_number cycle_number first_refusal gaps_allowed sizes_allowed supply_kept demand_met lateness_number late_number late_cycle_number late_gap_allowed late_gaps_allowed late_supply late_demand all price_in charge tenths plan_bill cycle_bill first pair_of repeats period row in_order comes_first least_start normal_form normalised counted_at too_early over_budget no_place offer_number after later budget_left offer_answer plain_answers
+unfolding samples_hold samples sample sample_with cycle two_rounds offer offered left_is answers_are claims_hold claim_holds same answer_is report_is reports_are well_formed even minute_is between_is bill_is of_schedule of_even same_rate same_range read_to spec_number first_number limits order rate_limits range_limits range_order starts_above in_range size_allowed gap_allowed top_of read_spec if_none second_number one_range_number started sum minute held_from stretch proper run kind_run well_size well_gap even_first even_size report_of if_proper between_of greatest last_report first_least nearest_report reports_from records_from consistency_of conditions_of bounds_fit_rates size_fits_budget gap_fits_demand demand_fits_duration fewest_reports_fit_budget enough_reports_for_demand supply_covers_demand where_there ceil schedule_for both_rates rates_from scheduled exists plan_for supply_figure required available least test_of test_consistent test_taken figure_passes taken first_count last_count schedule_with taken_from better_of is_better family_of even_plan plan_or10 even_plan_at even_gap largest fits supply_fits demand_fits total_of count_at pair_gap pair_size cycle_run round check_number cycle_number first_refusal gaps_allowed sizes_allowed supply_kept demand_met lateness_number late_number late_cycle_number late_gap_allowed late_gaps_allowed late_supply late_demand all price_in charge tenths plan_bill cycle_bill first shows_full shows_thin shortest shortest_full shortest_thin shortest_stretch pair_of repeats period row in_order comes_first least_start normal_form normalised counted_at too_early over_budget no_place offer_number after later budget_left offer_answer plain_answers
 samples_hold_lem = refl

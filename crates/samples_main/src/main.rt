@@ -177,6 +177,16 @@ fn cycle(rt: &impl Print, s: Spec, words: &[u16]) -> io::Result<()> {
     println!(rt; "  cycle {}", answer_number(cycle::check(s, words)))
 }
 
+// That number and, with 15 and 16, the shortest stretch that shows it: the first report's number, and how many.
+fn stretch(rt: &impl Print, s: Spec, words: &[u16]) -> io::Result<()> {
+    let judged = cycle::shortest_stretch(s, words);
+    print!(rt; "  stretch {}", answer_number(judged.answer))?;
+    match judged.stretch {
+        Some(row) => println!(rt; " {} {}", row.first, row.reports),
+        None => println!(rt),
+    }
+}
+
 // That of a cycle of one pair, where reports may be so many minutes late.
 fn late_cycle(rt: &impl Print, s: Spec, gap: u16, size: u16, lateness: u32) -> io::Result<()> {
     let number = answer_number(cycle::check_late(s, &[gap, size], lateness));
@@ -260,6 +270,16 @@ fn bills(rt: &impl Print, p: Plan) -> io::Result<()> {
     plan_cost(rt, p, 10)
 }
 
+// What to send back of the cycles of G, of one that is begun at its last pair, and of those that get another number.
+fn stretches(rt: &impl Print, s: Spec) -> io::Result<()> {
+    stretch(rt, s, &[5, 3, 5, 3, 5, 2, 5, 2])?;
+    stretch(rt, s, &[5, 3, 5, 2, 5, 2, 5, 3])?;
+    stretch(rt, s, &[5, 2, 5, 2, 5, 2, 5, 3])?;
+    stretch(rt, s, &[5, 3, 5, 2])?;
+    stretch(rt, s, &[6, 3, 6, 2])?;
+    stretch(rt, s, &[])
+}
+
 // B with 15, from its file, the cycles of G, and offers to a meter.
 fn sample_g(rt: &impl Print) -> io::Result<()> {
     println!(rt; "B with B = 15, G")?;
@@ -285,6 +305,7 @@ fn sample_g(rt: &impl Print) -> io::Result<()> {
     cycle(rt, s, &[5, 3, 5, 3, 5, 2, 5, 2])?;
     cycle_cost(rt, s, &[5, 3, 5, 3, 5, 2, 5, 2], 0)?;
     cycle(rt, s, &[5, 2, 5, 2, 5, 2, 5, 3])?;
+    stretches(rt, s)?;
     offers(rt, s)
 }
 
