@@ -1,5 +1,5 @@
 /*
- * The twenty-three calls from C, through include/maxeltu.h: the samples, every
+ * The twenty-four calls from C, through include/maxeltu.h: the samples, every
  * refusal of every call, and the places that a call must leave as they were.
  *
  * Prints a line for each group, whose name starts with the argument if there is
@@ -170,6 +170,13 @@ static uint32_t cycle_cost(struct spec_file s, const struct maxeltu_pair *cycle,
     return maxeltu_cycle_cost(SPEC(s), cycle, count, reports, &bill[1], &bill[2]);
 }
 
+/* The first report's number comes to the second place, and how many there are to the fourth. */
+static uint32_t shortest_stretch(struct spec_file s, const struct maxeltu_pair *cycle, size_t count)
+{
+    fill_places();
+    return maxeltu_shortest_stretch(SPEC(s), cycle, count, &places[1], &places[3]);
+}
+
 /* A meter between numbers that no call may touch; `former` is what it held before the last call. */
 static struct {
     uint32_t before[4];
@@ -308,8 +315,13 @@ static void samples_of_minutes(void)
     end();
 }
 
+static bool stretch_holds(uint32_t first, uint32_t reports)
+{
+    return hold(5, held[0], first, held[2], reports, held[4]);
+}
+
 /* The check of a cycle, which the loader's call must repeat of its file, and which with lateness 0 is the same; it also says whether
- * the reports have a cost. */
+ * the reports have a cost, and whether some show why it is refused. */
 static uint32_t check_pairs(struct spec_file s, size_t count, const struct maxeltu_pair *cycle)
 {
     uint8_t file[MAXELTU_MAX_CYCLE_FILE];
@@ -319,6 +331,8 @@ static uint32_t check_pairs(struct spec_file s, size_t count, const struct maxel
     CHECK(maxeltu_check_late(SPEC(s), cycle, count, 0) == answer);
     CHECK(cycle_cost(s, cycle, count, 0) == answer && (answer ? bill_untouched() : bill_holds(0, 0)));
     CHECK(cycle_cost(s, cycle, count, UINT32_MAX) == answer && bill_untouched() == (answer != 0));
+    CHECK(shortest_stretch(s, cycle, count) == answer);
+    CHECK(untouched() == (answer != MAXELTU_TOO_FULL && answer != MAXELTU_TOO_THIN));
     return answer;
 }
 
@@ -514,6 +528,99 @@ static void samples_of_late_reports(void)
     end();
 }
 
+/* ---- the shortest stretch ---- */
+
+/* A cycle gets this number, and so many reports from this one on show it; with 16, so many after it. */
+static bool shown(struct spec_file s, const struct maxeltu_pair *cycle, size_t count, uint32_t number, uint32_t first, uint32_t reports)
+{
+    return shortest_stretch(s, cycle, count) == number && stretch_holds(first, reports);
+}
+
+static bool not_shown(struct spec_file s, const struct maxeltu_pair *cycle, size_t count, uint32_t number)
+{
+    return shortest_stretch(s, cycle, count) == number && untouched();
+}
+
+static void samples_of_stretches(void)
+{
+    begin("shortest stretches: samples");
+    static const struct maxeltu_pair full[] = { { 5, 3 }, { 5, 3 }, { 5, 2 }, { 5, 2 }, { 5, 3 }, { 5, 3 }, { 5, 2 } };
+    static const struct maxeltu_pair thin[] = { { 5, 2 }, { 5, 2 }, { 5, 2 }, { 5, 3 } };
+    static const struct maxeltu_pair good[] = { { 5, 3 }, { 5, 2 } };
+    /* Begun at each of its pairs: the six reports begin at the first 3 of two. */
+    static const uint32_t first_of_six[] = { 0, 3, 2, 1 };
+    for (size_t start = 0; start < 4; start++)
+        CHECK(shown(sample_b(15), full + start, 4, MAXELTU_TOO_FULL, first_of_six[start], 6));
+    CHECK(shown(sample_b(15), thin, 4, MAXELTU_TOO_THIN, 0, 4));
+    CHECK(not_shown(sample_b(15), good, 2, MAXELTU_OK));
+    CHECK(not_shown(sample_b(15), (struct maxeltu_pair[]){ { 5, 3 }, { 6, 2 } }, 2, MAXELTU_GAP));
+    CHECK(not_shown(sample_b(15), (struct maxeltu_pair[]){ { 5, 3 }, { 5, 4 } }, 2, MAXELTU_SIZE));
+    CHECK(not_shown(sample_b(15), good, 0, MAXELTU_COUNT));
+    /* Six of its reports hold 15 records, five of them 13. */
+    CHECK(shown(sample_b(14), good, 2, MAXELTU_TOO_FULL, 0, 6) && shown(sample_b(12), good, 2, MAXELTU_TOO_FULL, 0, 5));
+    static const struct maxeltu_pair shift[] = { { 15, 5 }, { 15, 5 }, { 5, 4 }, { 90, 8 }, { 60, 8 } };
+    CHECK(not_shown(two_shifts(60, 90), shift, 5, MAXELTU_OK));
+    CHECK(shown(spec_of(47, 10, 1, 10, 5, 15, 21, 60, 8, 90, 60, 90), shift, 5, MAXELTU_TOO_FULL, 0, 4));
+    CHECK(shown(spec_of(47, 10, 1, 10, 5, 15, 22, 60, 9, 90, 60, 90), shift, 5, MAXELTU_TOO_THIN, 2, 1));
+    CHECK(shown(spec_of(47, 10, 1, 10, 5, 15, 21, 60, 9, 90, 60, 90), shift, 5, MAXELTU_TOO_FULL, 0, 4));
+    end();
+}
+
+/* Two reports in turn, the gaps after them 10 minutes and 9; and what is just full or thin, and just not. */
+static void bounds_of_stretches(void)
+{
+    begin("shortest stretches: R and P, B and L");
+    static const struct maxeltu_pair two[] = { { 10, 5 }, { 9, 5 } };
+    for (int r = 1; r < 40; r++) {
+        struct spec_file s = spec_of(7, 6, 1, 9, 1, 99, 9, r);
+        if (r < 10)
+            CHECK(not_shown(s, two, 2, MAXELTU_OK));
+        else
+            CHECK(shown(s, two, 2, MAXELTU_TOO_FULL, r == 10, 2));
+        CHECK(not_shown(spec_of(7, 6, 1, 9, 1, 99, 10, r), two, 2, MAXELTU_OK) == (r < 20));
+    }
+    for (int p = 1; p < 40; p++) {
+        struct spec_file s = spec_of(11, 6, 1, 9, 1, 99, 1, p);
+        if (p < 10)
+            CHECK(shown(s, two, 2, MAXELTU_TOO_THIN, 0, 0));
+        else
+            CHECK(not_shown(s, two, 2, MAXELTU_OK));
+        CHECK(not_shown(spec_of(11, 6, 1, 9, 1, 99, 5, p), two, 2, MAXELTU_OK) == (p >= 10));
+        CHECK(not_shown(spec_of(11, 6, 1, 9, 1, 99, 6, p), two, 2, MAXELTU_OK) == (p >= 19));
+    }
+    static const struct maxeltu_pair turned[] = { { 9, 5 }, { 10, 5 } };
+    CHECK(shown(spec_of(7, 6, 1, 9, 1, 99, 9, 10), turned, 2, MAXELTU_TOO_FULL, 0, 2));
+    CHECK(shown(spec_of(11, 6, 1, 9, 1, 99, 1, 9), turned, 2, MAXELTU_TOO_THIN, 1, 0));
+    CHECK(shown(spec_of(11, 6, 1, 9, 1, 99, 6, 18), turned, 2, MAXELTU_TOO_THIN, 0, 1));
+    CHECK(shown(spec_of(11, 6, 1, 9, 1, 99, 6, 18), two, 2, MAXELTU_TOO_THIN, 0, 1));
+    end();
+}
+
+/* One report or 512 of a record each minute, or of 20,160 minutes; the last pair of 512 is another, so that the stretch begins there. */
+static void long_stretches(void)
+{
+    begin("shortest stretches: one pair and 512, up to 20,001 reports");
+    struct maxeltu_pair cycle[MAXELTU_MAX_PAIRS];
+    struct spec_file full = spec_of(7, 6, 1, 1000, 1, 20160, 20000, 20160), thin = spec_of(11, 6, 1, 1000, 1, 20160, 20000, 19999);
+    for (size_t i = 0; i < MAXELTU_MAX_PAIRS; i++)
+        cycle[i] = (struct maxeltu_pair){ .gap = 1, .size = 1 };
+    CHECK(shown(full, cycle, 1, MAXELTU_TOO_FULL, 0, 20001) && shown(full, cycle, MAXELTU_MAX_PAIRS, MAXELTU_TOO_FULL, 0, 20001));
+    CHECK(shown(thin, cycle, 1, MAXELTU_TOO_THIN, 0, 19999) && shown(thin, cycle, MAXELTU_MAX_PAIRS, MAXELTU_TOO_THIN, 0, 19999));
+    cycle[MAXELTU_MAX_PAIRS - 1].gap = 2;
+    CHECK(shown(spec_of(11, 6, 1, 1000, 1, 20160, 1, 1), cycle, MAXELTU_MAX_PAIRS, MAXELTU_TOO_THIN, 511, 0));
+    CHECK(not_shown(spec_of(11, 6, 1, 1000, 1, 20160, 1, 2), cycle, MAXELTU_MAX_PAIRS, MAXELTU_OK));
+    cycle[MAXELTU_MAX_PAIRS - 1].size = 1000;
+    CHECK(shown(spec_of(7, 6, 1, 1000, 1, 20160, 999, 1), cycle, MAXELTU_MAX_PAIRS, MAXELTU_TOO_FULL, 511, 1));
+    CHECK(shown(spec_of(7, 6, 1, 1000, 1, 20160, 1000, 2), cycle, MAXELTU_MAX_PAIRS, MAXELTU_TOO_FULL, 510, 2));
+    CHECK(shown(spec_of(7, 6, 1, 1000, 1, 20160, 1001, 4), cycle, MAXELTU_MAX_PAIRS, MAXELTU_TOO_FULL, 509, 3));
+    struct maxeltu_pair wide = { 20160, 1000 };
+    CHECK(shown(spec_of(7, 6, 1, 1000, 1, 20160, 999, 20160), &wide, 1, MAXELTU_TOO_FULL, 0, 1));
+    CHECK(not_shown(spec_of(7, 6, 1, 1000, 1, 20160, 1000, 20160), &wide, 1, MAXELTU_OK));
+    CHECK(shown(spec_of(11, 6, 1, 1000, 1, 20160, 1, 20159), &wide, 1, MAXELTU_TOO_THIN, 0, 0));
+    CHECK(shown(spec_of(11, 6, 1, 1000, 1, 20160, 20000, 20160), &wide, 1, MAXELTU_TOO_THIN, 0, 1));
+    end();
+}
+
 /* ---- refusals ---- */
 
 /* Every call that takes a specification answers this, and writes nothing. */
@@ -532,6 +639,8 @@ static void refused_everywhere(struct spec_file s, uint32_t refusal)
     CHECK(maxeltu_check_cycle(SPEC(s), &pair, 0) == refusal);
     CHECK(maxeltu_check_late(SPEC(s), &pair, 1, 1) == refusal);
     CHECK(maxeltu_check_late(SPEC(s), &pair, 0, UINT32_MAX) == refusal);
+    CHECK(shortest_stretch(s, &pair, 1) == refusal && untouched());
+    CHECK(shortest_stretch(s, &pair, 0) == refusal && untouched());
     CHECK(cycle_cost(s, &pair, 1, 0) == refusal && bill_untouched());
     CHECK(cycle_cost(s, &pair, 0, 4) == refusal && bill_untouched());
     fill_meter(0x5A);
@@ -863,6 +972,7 @@ static void longest_cycle(void)
     CHECK(memcmp(pairs, cycle, sizeof cycle) == 0 && pairs_untouched_from(MAXELTU_MAX_PAIRS));
     fill_pairs();
     CHECK(maxeltu_check_cycle(SPEC(wide), pairs, MAXELTU_MAX_PAIRS + 1) == MAXELTU_COUNT);
+    CHECK(shortest_stretch(wide, pairs, MAXELTU_MAX_PAIRS + 1) == MAXELTU_COUNT && untouched());
     /* Its gaps are 100 to 106. */
     CHECK(maxeltu_check_late(SPEC(wide), cycle, MAXELTU_MAX_PAIRS, 99) == 0);
     CHECK(maxeltu_check_late(SPEC(wide), cycle, MAXELTU_MAX_PAIRS, 100) == MAXELTU_GAP);
@@ -1640,6 +1750,7 @@ static void null_for_empty(void)
     CHECK(maxeltu_even_plan(NULL, 0, &places[0], &places[1], &places[2]) == MAXELTU_SPEC_MAP);
     CHECK(maxeltu_check_cycle(SPEC(b15), NULL, 0) == MAXELTU_COUNT);
     CHECK(maxeltu_check_late(SPEC(b15), NULL, 0, 10) == MAXELTU_COUNT);
+    CHECK(maxeltu_shortest_stretch(SPEC(b15), NULL, 0, &places[0], &places[1]) == MAXELTU_COUNT);
     CHECK(cycle_cost(b15, NULL, 0, 4) == MAXELTU_COUNT && bill_untouched());
     CHECK(maxeltu_normal_form(NULL, 0, NULL, 0, &places[0]) == MAXELTU_COUNT);
     CHECK(maxeltu_normal_form(&(struct maxeltu_pair){ .gap = 5, .size = 2 }, 1, NULL, 0, &places[0]) == MAXELTU_NO_ROOM);
@@ -1669,6 +1780,9 @@ int main(int argc, char **argv)
     bands();
     largest_costs();
     samples_of_late_reports();
+    samples_of_stretches();
+    bounds_of_stretches();
+    long_stretches();
     refusals_of_specifications();
     refusals_of_two_ranges();
     refusals_of_plans();

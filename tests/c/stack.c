@@ -122,12 +122,13 @@ static void lend(const struct input *input)
 
 /* ---- calls ---- */
 
-static uint32_t answer, number;
+static uint32_t answer, number, reports;
 static uint64_t tenths, cents;
 
 static void verdict(void) { answer = maxeltu_verdict(spec_file, sizeof spec_file, cycle_file, cycle_length); }
 static void check_cycle(void) { answer = maxeltu_check_cycle(spec_file, sizeof spec_file, pairs, count); }
 static void check_late(void) { answer = maxeltu_check_late(spec_file, sizeof spec_file, pairs, count, LATENESS); }
+static void shortest_stretch(void) { answer = maxeltu_shortest_stretch(spec_file, sizeof spec_file, pairs, count, &number, &reports); }
 static void normal_form(void) { answer = maxeltu_normal_form(pairs, count, places, COUNT_OF(places), &number); }
 static void read_cycle(void) { answer = maxeltu_read_cycle(cycle_file, cycle_length, places, COUNT_OF(places), &number); }
 static void write_cycle(void) { answer = maxeltu_write_cycle(pairs, count, bytes, sizeof bytes, &number); }
@@ -235,6 +236,7 @@ int main(void)
         { "maxeltu_verdict", verdict, true, 2 * UNPACKED_CYCLE },
         { "maxeltu_check_cycle", check_cycle, true, 2 * UNPACKED_CYCLE },
         { "maxeltu_check_late", check_late, true, 2 * UNPACKED_CYCLE },
+        { "maxeltu_shortest_stretch", shortest_stretch, true, 2 * UNPACKED_CYCLE },
         { "maxeltu_cycle_cost", cycle_cost, true, 2 * UNPACKED_CYCLE },
         { "maxeltu_normal_form", normal_form, false, UNPACKED_CYCLE / 4 },
         { "maxeltu_in_force", in_force, false, UNPACKED_CYCLE / 8 },

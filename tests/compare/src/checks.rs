@@ -9,10 +9,12 @@ use crate::late;
 use crate::library::{Billed, Library, Outcome};
 use crate::normal::{are_one_run, have_one_form};
 use crate::ring::{Meter, BYTES};
+use crate::shortest::{given, given_for};
 use reference::cost::{self, Cost};
 use reference::duty::Week;
 use reference::feasibility::{self, Failure};
 use reference::meter::{Machine, Report};
+use reference::shortest::Stretch;
 use reference::{cycle, dated, even, file, normal, spec, verdict, Kind, Pair, Plan, Spec};
 use std::fmt::Debug;
 use std::path::{Path, PathBuf};
@@ -34,6 +36,15 @@ pub fn demand_only(size: Numbers, gap: Numbers, demand: Numbers) -> Spec {
 pub fn both_rates(size: Numbers, gap: Numbers, supply: Numbers, demand: Numbers) -> Spec {
     Spec { supply: Some(supply), demand: Some(demand), ..no_rates(size, gap) }
 }
+
+/// Cycles that get a number before any rate is asked, where sizes of 3 to 7 and gaps of 5 to 30 are allowed.
+pub const BEFORE_RATES: [(&str, &[(u16, u16)], u32); 5] = [
+    ("no pair", &[], 12),
+    ("513 pairs", &[(10, 3); 513], 12),
+    ("513 pairs of gap 0", &[(0, 3); 513], 12),
+    ("a gap and a size", &[(10, 2), (31, 3)], 13),
+    ("a size, and both rates", &[(10, 3), (12, 8)], 14),
+];
 
 /// The same specification with this second range of gaps.
 pub fn with_second(spec: &Spec, second: Numbers) -> Spec {
@@ -90,6 +101,7 @@ impl Checks {
             library.verdict(file, &[0, 1, 3, 0, 5, 0, 2]),
             library.check_cycle(file, &[Pair { gap: 5, size: 2 }]),
             [0, 1, 1_440, 1_441, u32::MAX].map(|lateness| library.check_late(file, &[Pair { gap: 5, size: 2 }], lateness)),
+            library.shortest_stretch(file, &[Pair { gap: 5, size: 2 }], [HELD; 2]),
             [0, 4].map(|reports| library.cycle_cost(file, &[Pair { gap: 5, size: 2 }], reports, HELD_BILL)),
             library.consistency(file, [HELD]),
             library.min_demand(file, 1, [HELD; 3]),
@@ -100,9 +112,10 @@ impl Checks {
         );
         let (one, three, five) =
             (expected(Err(wanted), [HELD]), expected(Err(wanted), [HELD; 3]), expected(Err(wanted), [HELD; 5]));
+        let two = expected(Err(wanted), [HELD; 2]);
         let bills = [billed(Err(wanted), HELD_BILL); 2];
         let kept = (wanted, true);
-        let all = (wanted, wanted, [wanted; 5], bills, one, three, three, five, three, kept);
+        let all = (wanted, wanted, [wanted; 5], two, bills, one, three, three, five, three, kept);
         self.holds(format!("library, {name}: {got:?}, not {wanted}"), got == all);
         let read = spec::read(file);
         self.holds(format!("reference, {name}: {read:?}, not {wanted}"), read == Err(wanted));
@@ -280,8 +293,8 @@ impl Checks {
         }
     }
 
-    /// The check of a cycle, on its pairs and, where they have a file, through the loader's call. With lateness 0, and of what its reports
-    /// cost, the number is the same.
+    /// The check of a cycle, on its pairs and, where they have a file, through the loader's call. With lateness 0, with the shortest stretch,
+    /// and of what its reports cost, the number is the same.
     pub fn cycle(&mut self, name: &str, spec: &Spec, pairs: &[(u16, u16)], wanted: u32) {
         self.late(name, spec, pairs, 0, wanted);
         let pairs = pairs_of(pairs);
@@ -289,6 +302,7 @@ impl Checks {
         let got = self.library.check_cycle(&spec_file, &pairs);
         let reference = spec::read(&spec_file).map_or_else(|refusal| refusal, |spec| cycle::check(&spec, &pairs));
         self.both(&format!("{name}, check"), got, reference, wanted);
+        self.shortest_stretch(name, &spec_file, &pairs, given_for(&spec_file, &pairs, [HELD; 2]), wanted);
         for reports in [0, 1, u32::MAX] {
             self.priced_as_checked(&format!("{name}, cost of {reports} reports"), &spec_file, &pairs, reports, wanted);
         }
@@ -303,6 +317,35 @@ impl Checks {
         let got = self.library.check_late(&file, &pairs, lateness);
         let reference = late::number(&file, &pairs, lateness.into());
         self.both(&format!("{name}, {lateness} minutes late"), got, reference, wanted);
+    }
+
+    /// A cycle that gets 15 or 16, and the shortest stretch that shows it: its first report's number, and how many there are.
+    pub fn shortest(&mut self, name: &str, spec: &Spec, pairs: &[(u16, u16)], number: u32, [first, reports]: [u64; 2]) {
+        let stretch = Some(Stretch { first, reports });
+        self.shortest_stretch(name, &spec::write(spec), &pairs_of(pairs), given((number, stretch), [HELD; 2]), number);
+    }
+
+    /// A cycle that is passed, or gets another number, has none.
+    pub fn no_shortest(&mut self, name: &str, spec: &Spec, pairs: &[(u16, u16)], number: u32) {
+        self.shortest_stretch(name, &spec::write(spec), &pairs_of(pairs), given((number, None), [HELD; 2]), number);
+    }
+
+    /// What gets none gets its number again where nothing can be written.
+    fn shortest_stretch(&mut self, name: &str, spec_file: &[u8], pairs: &[Pair], wanted: Outcome<2>, number: u32) {
+        let text = format!("{name}, shortest stretch");
+        let got = self.library.shortest_stretch(spec_file, pairs, [HELD; 2]);
+        self.both(&text, got, given_for(spec_file, pairs, [HELD; 2]), wanted);
+        self.holds(format!("reference, {text}: {wanted:?}, not {number}"), wanted.answer == number);
+        if wanted.places == [HELD; 2] && got == wanted {
+            let again = self.library.no_stretch(spec_file, pairs);
+            self.holds(format!("library, {text} again: {again}"), again == number);
+        }
+    }
+
+    /// So many pairs, of which none can be read, are refused.
+    pub fn shortest_out_of_reach(&mut self, spec: &Spec, count: usize) {
+        let got = self.library.no_stretch_out_of_reach(&spec::write(spec), count);
+        self.holds(format!("library, {count} pairs, shortest stretch: {got}, not 12"), got == 12);
     }
 
     /// What is refused is refused again where nothing can be written.

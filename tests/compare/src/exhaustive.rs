@@ -1,6 +1,6 @@
 //! Every specification with small numbers, of one range of gaps and of two, for each of them every short cycle, also one whose reports
-//! may arrive late, and every list of sizes at the gap of its even plan and at longer ones; every short list of offers to every small
-//! meter; and every small even plan: nothing here is left to chance.
+//! may arrive late, the shortest stretch of every short cycle, and every list of sizes at the gap of its even plan and at longer ones;
+//! every short list of offers to every small meter; and every small even plan: nothing here is left to chance.
 
 use crate::calls::{consistency_outcome, expected, with_condition};
 use crate::checks::HELD;
@@ -10,6 +10,7 @@ use crate::least::least_case;
 use crate::library::{Library, Outcome};
 use crate::meters::Trial;
 use crate::ring::{Meter, BYTES};
+use crate::shortest;
 use reference::feasibility::{self, Failure};
 use reference::meter::{stretch, Report};
 use reference::schedule::LAID_OUT;
@@ -71,6 +72,13 @@ fn of_two_ranges() -> Small {
 fn for_late_reports() -> Small {
     let cycles = SmallCycles { pairs: 2, gaps: 5, sizes: 2 };
     Small { sizes: vec![(1, 2)], gaps: one_range(5).chain(two_ranges(5)).collect(), records: 3, minutes: 6, cycles }
+}
+
+/// The second gap is in no range of some, and the first size in none of some.
+fn for_stretches() -> Small {
+    let cycles = SmallCycles { pairs: 3, gaps: 3, sizes: 2 };
+    let gaps = vec![((1, 3), None), ((1, 1), Some((3, 3)))];
+    Small { sizes: vec![(1, 2), (2, 2)], gaps, records: 6, minutes: 6, cycles }
 }
 
 /// With rates of up to 6 minutes no stretch holds more than 6 reports, so that all lists of sizes can be looked at. No cycle is asked.
@@ -139,6 +147,12 @@ pub fn all(runner: &mut Runner) {
     runner.every(name, small.cases(), &[0, 12, 13, 15, 16], |number, library| {
         let (spec, pairs) = small.case(number);
         late::every_lateness(&spec, &pairs, 2, library)
+    });
+    let small = for_stretches();
+    let name = "every small specification: every cycle of up to 3 pairs, its shortest stretch";
+    runner.every(name, small.cases(), &[0, 12, 13, 14, 15, 16, 115, 116, 216, 316], |number, library| {
+        let (spec, pairs) = small.case(number);
+        shortest::compare_small(&spec, &pairs, library)
     });
     let small = for_lists_of_sizes();
     let name = "every small specification: no list of sizes sends less than the even plan";

@@ -1,7 +1,7 @@
 //! Document 02, Req 09: reports that arrive late. Every answer is worked out by hand from the documents, and asked of the library and
 //! of the reference.
 
-use crate::checks::{self, both_rates, demand_only, no_rates, supply_only, with_second, Checks};
+use crate::checks::{self, both_rates, demand_only, no_rates, supply_only, with_second, Checks, BEFORE_RATES};
 use crate::group::Runner;
 use reference::{spec, Spec};
 
@@ -101,22 +101,15 @@ const TOO_LATE: [u32; 9] = [1_441, 1_442, 20_160, 65_535, 65_536, 65_541, 0x1_00
 
 fn order(checks: &mut Checks) {
     let rated = both_rates((3, 7), (5, 30), (6, 20), (100, 20));
-    let sound: [(&str, &[(u16, u16)], u32); 7] = [
-        ("no pair", &[], 12),
-        ("513 pairs", &[(10, 3); 513], 12),
-        ("513 pairs of gap 0", &[(0, 3); 513], 12),
-        ("a gap and a size", &[(10, 2), (31, 3)], 13),
-        ("a size, and both rates", &[(10, 3), (12, 8)], 14),
-        ("both rates", &[(10, 7), (12, 3)], 15),
-        ("the demand rate", &[(10, 3), (12, 3)], 16),
-    ];
-    for (name, pairs, answer) in sound {
+    let of_rates: [(&str, &[(u16, u16)], u32); 2] =
+        [("both rates", &[(10, 7), (12, 3)], 15), ("the demand rate", &[(10, 3), (12, 3)], 16)];
+    for (name, pairs, answer) in BEFORE_RATES.into_iter().chain(of_rates) {
         checks.late(name, &rated, pairs, 0, answer);
         for lateness in TOO_LATE {
             checks.late(&format!("26 before {answer}"), &rated, pairs, lateness, 26);
         }
     }
-    for (name, pairs, _) in &sound[..3] {
+    for (name, pairs, _) in &BEFORE_RATES[..3] {
         checks.late(&format!("12 before all else, {name}"), &rated, pairs, 1_440, 12);
     }
     checks.late("passed", &no_rates((3, 7), (1, 20_160)), &[(1_441, 3)], 1_440, 0);

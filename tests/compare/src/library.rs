@@ -1,4 +1,4 @@
-//! The twenty-three calls of include/maxeltu.h, each wrapped so that its answer can be compared whole: every place that it was lent
+//! The twenty-four calls of include/maxeltu.h, each wrapped so that its answer can be compared whole: every place that it was lent
 //! is handed back with what it holds afterwards, and what it should only have read is looked at again.
 
 use crate::fence::{first_in_reach, out_of_reach, Fence};
@@ -20,6 +20,7 @@ extern "C" {
     fn maxeltu_plan_cost(kind: u32, k: u32, period: u32, total: u32, reports: u32, tenths: *mut u64, cents: *mut u64) -> u32;
     fn maxeltu_check_cycle(spec: *const u8, spec_len: usize, pairs: *const Pair, count: usize) -> u32;
     fn maxeltu_check_late(spec: *const u8, spec_len: usize, pairs: *const Pair, count: usize, lateness: u32) -> u32;
+    fn maxeltu_shortest_stretch(spec: *const u8, spec_len: usize, pairs: *const Pair, count: usize, first: *mut u32, reports: *mut u32) -> u32;
     fn maxeltu_cycle_cost(spec: *const u8, spec_len: usize, pairs: *const Pair, count: usize, reports: u32, tenths: *mut u64, cents: *mut u64) -> u32;
     fn maxeltu_normal_form(pairs: *const Pair, count: usize, normal: *mut Pair, places: usize, normal_count: *mut u32) -> u32;
     fn maxeltu_read_cycle(file: *const u8, file_len: usize, pairs: *mut Pair, places: usize, count: *mut u32) -> u32;
@@ -50,32 +51,38 @@ pub struct Library {
     pairs: Fence<Pair>,
     normal: Fence<Pair>,
     number: Fence<u32>,
+    stretch: Two<u32>,
     records: Fence<u64>,
-    bill: Bill,
+    bill: Two<u64>,
     meter: Fence<Meter>,
     left: Fence<u32>,
     table: Fence<u16>,
     calendar: Fence<u64>,
 }
 
-/// The places of what reports cost.
-struct Bill {
-    tenths: Fence<u64>,
-    cents: Fence<u64>,
+/// Two places for numbers of one kind.
+struct Two<T> {
+    first: Fence<T>,
+    second: Fence<T>,
 }
 
-impl Bill {
-    fn lend(&mut self, [tenths, cents]: [u64; 2]) -> (*mut u64, *mut u64) {
-        (self.tenths.lend(&[tenths]), self.cents.lend(&[cents]))
+impl<T: Copy + PartialEq + Default> Two<T> {
+    fn new() -> Two<T> {
+        Two { first: Fence::new(1), second: Fence::new(1) }
     }
 
-    fn held(&self) -> [u64; 2] {
-        [self.tenths.held(1)[0], self.cents.held(1)[0]]
+    fn lend(&mut self, [first, second]: [T; 2]) -> (*mut T, *mut T) {
+        (self.first.lend(&[first]), self.second.lend(&[second]))
     }
 
-    fn sealed(&mut self, call: impl FnOnce(*mut u64, *mut u64) -> u32) -> u32 {
-        let Bill { tenths, cents } = self;
-        tenths.sealed(&[0], |tenths| cents.sealed(&[0], |cents| call(tenths, cents)))
+    fn held(&self) -> [T; 2] {
+        [self.first.held(1)[0], self.second.held(1)[0]]
+    }
+
+    fn sealed(&mut self, call: impl FnOnce(*mut T, *mut T) -> u32) -> u32 {
+        let Two { first, second } = self;
+        let held = [T::default()];
+        first.sealed(&held, |first| second.sealed(&held, |second| call(first, second)))
     }
 }
 
@@ -123,8 +130,9 @@ impl Library {
             pairs: Fence::new(PAGES),
             normal: Fence::new(PAGES),
             number: Fence::new(1),
+            stretch: Two::new(),
             records: Fence::new(1),
-            bill: Bill { tenths: Fence::new(1), cents: Fence::new(1) },
+            bill: Two::new(),
             meter: Fence::new(2),
             left: Fence::new(1),
             table: Fence::new(1),
@@ -238,6 +246,32 @@ impl Library {
 
     pub fn check_late(&mut self, spec: &[u8], pairs: &[Pair], lateness: u32) -> u32 {
         self.with_cycle(spec, pairs, |at, len, list| unsafe { maxeltu_check_late(at, len, list, pairs.len(), lateness) })
+    }
+
+    /// The places are the first report's number, and how many there are.
+    pub fn shortest_stretch(&mut self, spec: &[u8], pairs: &[Pair], before: [u32; 2]) -> Outcome<2> {
+        let (first, reports) = self.stretch.lend(before);
+        let answer = self.with_cycle(spec, pairs, |at, len, list| unsafe {
+            maxeltu_shortest_stretch(at, len, list, pairs.len(), first, reports)
+        });
+        Outcome { answer, places: self.stretch.held() }
+    }
+
+    /// A cycle that gets no stretch, as it is passed or gets another number: both places lie where nothing can be written.
+    pub fn no_stretch(&mut self, spec: &[u8], pairs: &[Pair]) -> u32 {
+        let (at, count) = (self.spec.lend(spec), pairs.len());
+        let Library { pairs: list, stretch, .. } = self;
+        lend_cycle(list, pairs, |list| {
+            stretch.sealed(|first, reports| unsafe { maxeltu_shortest_stretch(at, spec.len(), list, count, first, reports) })
+        })
+    }
+
+    /// The same of so many pairs, of which none can be read.
+    pub fn no_stretch_out_of_reach(&mut self, spec: &[u8], count: usize) -> u32 {
+        let at = self.spec.lend(spec);
+        out_of_reach(count, |list| {
+            self.stretch.sealed(|first, reports| unsafe { maxeltu_shortest_stretch(at, spec.len(), list, count, first, reports) })
+        })
     }
 
     pub fn plan_cost(&mut self, kind: u32, [k, period, total]: [u32; 3], reports: u32, before: [u64; 2]) -> Billed {

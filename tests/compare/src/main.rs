@@ -37,6 +37,8 @@ mod ranges;
 mod ring;
 mod rounds;
 mod samples;
+mod shortest;
+mod shortest_edges;
 mod tables;
 
 use group::{Runner, RUNS};
@@ -64,6 +66,7 @@ fn main() {
             duty_edges::all(&mut runner);
             normal_edges::all(&mut runner);
             dated_edges::all(&mut runner);
+            shortest_edges::all(&mut runner);
             calls::reference_itself(&mut runner);
             exhaustive::all(&mut runner);
             calls::all(&mut runner);
@@ -75,6 +78,7 @@ fn main() {
             duty_plans::all(&mut runner);
             normal::all(&mut runner);
             dated::all(&mut runner);
+            shortest::all(&mut runner);
             meters::all(&mut runner);
         }
         ["evenplan", program] => program::all(&mut runner, program.as_ref()),

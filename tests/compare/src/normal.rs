@@ -157,7 +157,7 @@ fn some_list(random: &mut Random, count: usize) -> Vec<Pair> {
 }
 
 /// The pair at which a cycle of so many is begun, and how often it is written out then: once, mostly, or as it has room.
-fn start_and_times(random: &mut Random, count: usize) -> (usize, usize) {
+pub fn start_and_times(random: &mut Random, count: usize) -> (usize, usize) {
     if !(1..=512).contains(&count) {
         return (0, 1);
     }

@@ -1,9 +1,9 @@
 //! The samples of document 01, starred or not, through the library and through the reference, and the files in samples/. The sizes of
 //! even plans are those of document 02, Req 02, the meter is that of Req 03, the van of two shifts that of Req 06, the prices are those
 //! of Req 08, the reports that arrive late those of Req 09, the first report that may be thinner that of Req 10, the week table is that of
-//! Req 11, the normal forms are those of Req 12, and the dated files those of Req 13.
+//! Req 11, the normal forms are those of Req 12, the dated files those of Req 13, and the shortest stretches those of Req 14.
 
-use crate::checks::{self, both_rates, demand_only, pairs_of, with_second, Checks, Offer};
+use crate::checks::{self, both_rates, demand_only, pairs_of, supply_only, with_second, Checks, Offer};
 use crate::dated::dated;
 use crate::group::Runner;
 use reference::feasibility::Failure::{Inconsistent, Refused};
@@ -57,6 +57,7 @@ pub fn all(runner: &mut Runner) {
     checks::group(runner, "samples of plans, from a minute back to the report", minutes);
     checks::group(runner, "samples of plans and cycles, what they cost", costs);
     checks::group(runner, "samples of cycles with late reports", late);
+    checks::group(runner, "samples of cycles, the shortest stretch to send back", shortest_stretches);
     checks::group(runner, "samples of meters", meters);
     checks::group(runner, "sample of a week table", duty_hours);
     checks::group(runner, "samples of cycles, their normal forms", normal_forms);
@@ -177,6 +178,42 @@ fn late(checks: &mut Checks) {
         for &(lateness, wanted) in wanted {
             checks.late(name, spec, pairs, lateness, wanted);
         }
+    }
+}
+
+/// Document 01, sample G, and the cycles of samples/ against the specifications there.
+fn shortest_stretches(checks: &mut Checks) {
+    let b15 = b_with(15);
+    // Six reports of 16 records, 25 minutes apart; and four of 9, between two that are 25 minutes apart.
+    checks.shortest("b15-full.cycle", &b15, &pairs_in("b15-full.cycle"), 15, [0, 6]);
+    checks.shortest("b15-thin.cycle", &b15, &pairs_in("b15-thin.cycle"), 16, [0, 4]);
+    // As many as a 15 can need, and none between two.
+    let [most, apart] = [supply_only((1, 1), (1, 1), (20_000, 20_160)), both_rates((1, 9), (1, 9), (9, 1), (1, 3))];
+    checks.file("most.spec", &spec::write(&most));
+    checks.file("apart.spec", &spec::write(&apart));
+    checks.shortest("most-full.cycle", &most, &pairs_in("most-full.cycle"), 15, [0, 20_001]);
+    checks.shortest("apart-thin.cycle", &apart, &pairs_in("apart-thin.cycle"), 16, [0, 0]);
+    for (name, number) in [("b15-good.cycle", 0), ("b15-gap.cycle", 13), ("b15-size.cycle", 14)] {
+        checks.no_shortest(name, &b15, &pairs_in(name), number);
+    }
+    // Of the turns of the first the six begin at its first 3, which stands elsewhere; of the second the four have one 3.
+    for (sizes, number, stretch) in [
+        ([3, 2, 2, 3], 15, [3, 6]),
+        ([2, 2, 3, 3], 15, [2, 6]),
+        ([2, 3, 3, 2], 15, [1, 6]),
+        ([2, 2, 3, 2], 16, [0, 4]),
+        ([3, 2, 2, 2], 16, [0, 4]),
+        ([2, 2, 2, 2], 16, [0, 4]),
+        ([3, 3, 3, 3], 15, [0, 6]),
+    ] {
+        checks.shortest("sizes of sample G", &b15, &sizes.map(|size| (5, size)), number, stretch);
+    }
+    let shift = with_second(&one_shift(), (60, 90));
+    let [full, thin] = [Spec { supply: Some((21, 60)), ..shift.clone() }, Spec { demand: Some((9, 90)), ..shift.clone() }];
+    for (name, of_full, of_thin) in [("shift-good.cycle", [0, 4], [2, 1]), ("shift-turned.cycle", [2, 4], [0, 1])] {
+        checks.no_shortest(name, &shift, &pairs_in(name), 0);
+        checks.shortest(name, &full, &pairs_in(name), 15, of_full);
+        checks.shortest(name, &thin, &pairs_in(name), 16, of_thin);
     }
 }
 

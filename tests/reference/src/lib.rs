@@ -3,7 +3,7 @@
 //!
 //! Where a number is too large for the literal way there is a second, still plain way (`Reports` for `Minutes`, whole periods
 //! or weeks for a walk, counting for the search of size lists, the delays of each report for the choices of all, a few reports for whole
-//! rounds of two runs). The tests compare the two ways on numbers that both can do.
+//! rounds of two runs, a table for sums). The tests compare the two ways on numbers that both can do.
 
 pub mod cost;
 pub mod cycle;
@@ -18,6 +18,7 @@ pub mod moments;
 pub mod normal;
 pub mod plan;
 pub mod schedule;
+pub mod shortest;
 pub mod spec;
 
 /// A refusal number of documents 01 and 02.
