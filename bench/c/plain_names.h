@@ -1,6 +1,6 @@
 /*
  * Included before plain.c where it is linked beside the library: the same
- * twenty-three functions under names of their own.
+ * twenty-four functions under names of their own.
  */
 #define maxeltu_verdict plain_verdict
 #define maxeltu_consistency plain_consistency
@@ -15,6 +15,7 @@
 #define maxeltu_plan_cost plain_plan_cost
 #define maxeltu_check_cycle plain_check_cycle
 #define maxeltu_check_late plain_check_late
+#define maxeltu_shortest_stretch plain_shortest_stretch
 #define maxeltu_cycle_cost plain_cycle_cost
 #define maxeltu_normal_form plain_normal_form
 #define maxeltu_read_cycle plain_read_cycle

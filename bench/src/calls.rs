@@ -11,6 +11,7 @@ type Between = unsafe extern "C" fn(u32, u32, u32, u32, u32, u32, *mut u32, *mut
 type PlanCost = unsafe extern "C" fn(u32, u32, u32, u32, u32, *mut u64, *mut u64) -> u32;
 type CheckCycle = unsafe extern "C" fn(*const u8, usize, *const Pair, usize) -> u32;
 type CheckLate = unsafe extern "C" fn(*const u8, usize, *const Pair, usize, u32) -> u32;
+type ShortestStretch = unsafe extern "C" fn(*const u8, usize, *const Pair, usize, *mut u32, *mut u32) -> u32;
 type CycleCost = unsafe extern "C" fn(*const u8, usize, *const Pair, usize, u32, *mut u64, *mut u64) -> u32;
 type NormalForm = unsafe extern "C" fn(*const Pair, usize, *mut Pair, usize, *mut u32) -> u32;
 type ReadCycle = unsafe extern "C" fn(*const u8, usize, *mut Pair, usize, *mut u32) -> u32;
@@ -34,9 +35,9 @@ impl Meter {
 macro_rules! declare {
     (
         $verdict:ident $test:ident $even_plan:ident $report:ident $last_report:ident $nearest_report:ident $between:ident
-        $plan_cost:ident $check_cycle:ident $check_late:ident $cycle_cost:ident $normal_form:ident $read_cycle:ident
-        $write_cycle:ident $in_force:ident $make_meter:ident $offer:ident $week_table:ident $calendar_minute:ident
-        $duty_minute:ident
+        $plan_cost:ident $check_cycle:ident $check_late:ident $shortest_stretch:ident $cycle_cost:ident $normal_form:ident
+        $read_cycle:ident $write_cycle:ident $in_force:ident $make_meter:ident $offer:ident $week_table:ident
+        $calendar_minute:ident $duty_minute:ident
     ) => {
         extern "C" {
             fn $verdict(spec: *const u8, spec_len: usize, cycle: *const u8, cycle_len: usize) -> u32;
@@ -49,6 +50,7 @@ macro_rules! declare {
             fn $plan_cost(kind: u32, k: u32, period: u32, total: u32, reports: u32, tenths: *mut u64, cents: *mut u64) -> u32;
             fn $check_cycle(spec: *const u8, spec_len: usize, pairs: *const Pair, count: usize) -> u32;
             fn $check_late(spec: *const u8, spec_len: usize, pairs: *const Pair, count: usize, lateness: u32) -> u32;
+            fn $shortest_stretch(spec: *const u8, spec_len: usize, pairs: *const Pair, count: usize, first: *mut u32, reports: *mut u32) -> u32;
             fn $cycle_cost(spec: *const u8, spec_len: usize, pairs: *const Pair, count: usize, reports: u32, tenths: *mut u64, cents: *mut u64) -> u32;
             fn $normal_form(pairs: *const Pair, count: usize, normal: *mut Pair, places: usize, normal_count: *mut u32) -> u32;
             fn $read_cycle(file: *const u8, file_len: usize, pairs: *mut Pair, places: usize, count: *mut u32) -> u32;
@@ -65,15 +67,15 @@ macro_rules! declare {
 
 declare!(
     maxeltu_verdict maxeltu_test maxeltu_even_plan maxeltu_report maxeltu_last_report maxeltu_nearest_report maxeltu_between
-    maxeltu_plan_cost maxeltu_check_cycle maxeltu_check_late maxeltu_cycle_cost maxeltu_normal_form maxeltu_read_cycle
-    maxeltu_write_cycle maxeltu_in_force maxeltu_make_meter maxeltu_offer maxeltu_week_table maxeltu_calendar_minute
-    maxeltu_duty_minute
+    maxeltu_plan_cost maxeltu_check_cycle maxeltu_check_late maxeltu_shortest_stretch maxeltu_cycle_cost maxeltu_normal_form
+    maxeltu_read_cycle maxeltu_write_cycle maxeltu_in_force maxeltu_make_meter maxeltu_offer maxeltu_week_table
+    maxeltu_calendar_minute maxeltu_duty_minute
 );
 declare!(
     plain_verdict plain_test plain_even_plan plain_report plain_last_report plain_nearest_report plain_between
-    plain_plan_cost plain_check_cycle plain_check_late plain_cycle_cost plain_normal_form plain_read_cycle
-    plain_write_cycle plain_in_force plain_make_meter plain_offer plain_week_table plain_calendar_minute
-    plain_duty_minute
+    plain_plan_cost plain_check_cycle plain_check_late plain_shortest_stretch plain_cycle_cost plain_normal_form
+    plain_read_cycle plain_write_cycle plain_in_force plain_make_meter plain_offer plain_week_table
+    plain_calendar_minute plain_duty_minute
 );
 
 pub struct Calls {
@@ -87,6 +89,7 @@ pub struct Calls {
     plan_cost: PlanCost,
     check_cycle: CheckCycle,
     check_late: CheckLate,
+    shortest_stretch: ShortestStretch,
     cycle_cost: CycleCost,
     normal_form: NormalForm,
     read_cycle: ReadCycle,
@@ -110,6 +113,7 @@ pub const LIBRARY: Calls = Calls {
     plan_cost: maxeltu_plan_cost,
     check_cycle: maxeltu_check_cycle,
     check_late: maxeltu_check_late,
+    shortest_stretch: maxeltu_shortest_stretch,
     cycle_cost: maxeltu_cycle_cost,
     normal_form: maxeltu_normal_form,
     read_cycle: maxeltu_read_cycle,
@@ -133,6 +137,7 @@ pub const PLAIN_C: Calls = Calls {
     plan_cost: plain_plan_cost,
     check_cycle: plain_check_cycle,
     check_late: plain_check_late,
+    shortest_stretch: plain_shortest_stretch,
     cycle_cost: plain_cycle_cost,
     normal_form: plain_normal_form,
     read_cycle: plain_read_cycle,
@@ -200,6 +205,14 @@ impl Calls {
 
     pub fn check_late(&self, spec: &[u8], pairs: &[Pair], lateness: u32) -> u32 {
         unsafe { (self.check_late)(spec.as_ptr(), spec.len(), pairs.as_ptr(), pairs.len(), lateness) }
+    }
+
+    /// The answer, and where it is 15 or 16 the first report and how many there are, else 0 and 0.
+    pub fn shortest_stretch(&self, spec: &[u8], pairs: &[Pair]) -> (u32, [u32; 2]) {
+        let (mut first, mut reports) = (0, 0);
+        let (at, list) = (spec.as_ptr(), pairs.as_ptr());
+        let answer = unsafe { (self.shortest_stretch)(at, spec.len(), list, pairs.len(), &mut first, &mut reports) };
+        (answer, [first, reports])
     }
 
     /// Tenths and cents, of a cycle that is passed.

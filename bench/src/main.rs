@@ -8,6 +8,7 @@ mod late;
 mod meters;
 mod moments;
 mod normal;
+mod shortest;
 mod windows;
 
 use calls::{Calls, LIBRARY, PLAIN_C};
@@ -213,12 +214,14 @@ fn main() {
     moments::all();
     costs::all();
     late::all();
+    shortest::all();
     normal::all();
     dated::all();
     meters::all();
     duty::all();
     windows::all();
     late::against_check();
+    shortest::against_check();
     duty::against_near();
     normal::against_64();
 }
