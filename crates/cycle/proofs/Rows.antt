@@ -10,6 +10,7 @@ use mathlib.Core.Bool.{Bool, true, false, cond, and-eq-true_iff}
 use mathlib.Core.List.{List}
 use lib.Dec.{leb}
 use lib.ListN.{length}
+use borrow.Author.Count.{below_more}
 use borrow.Author.Tests.{leb-true, leb-false}
 use Rattle.std.specs.Prelude.{Option, None, Some}
 use Rattle.numbers.proofs.Cases.{lt_cases}
@@ -26,48 +27,44 @@ use Rattle.cycle.specs.declared.windows.Window.{Window}
 use Rattle.cycle.specs.Cycles.{cycle_run, round, round_records}
 use Rattle.cycle.specs.Shortest.{records_in}
 use Rattle.cycle.specs.Windows.{Walkable, IsParts, Spans}
-use Rattle.cycle.specs.Rows.{minutes_in, skipped, left_out, row_shows, row_of, shorter, BestBefore, Found}
+use Rattle.cycle.specs.Rows.{minutes_in, skipped, left_out, row_shows, row_of, shorter, Best, BestBefore, Found}
 use Rattle.cycle.proofs.Runs.{gap_again, size_again}
 use Rattle.cycle.proofs.MovingWindow.{first_there, past_most}
 
 -- the best row of the starts before k, and one start more
 module _ (shows : ℕ → ℕ → Bool) (k : ℕ) where
-  -- none from start k shows it
-  pub best_kept : (best : Option Row) → BestBefore shows k best → ((n : ℕ) → shows k n ≡ true → ⊥) → BestBefore shows (k + 1) best
-  best_kept None none here = λ i n q a. ⊎_elim (λ g. none i n g a) (λ g. let z : i ≡ k = omega arith in here n (rw z at a)) (lt_cases i k)
-  best_kept (Some row) best here = record {
+  -- it is the best still, where none from start k is shorter
+  kept : (row : Row) → Best shows k row → ((n : ℕ) → shows k n ≡ true → row.reports ≤ n) → Best shows (k + 1) row
+  kept row best here = record {
     shown = best.shown;
     passed = omega (arith, best.passed);
-    fewest = λ i n q a. ⊎_elim (λ g. best.fewest i n g a) (λ g. let z : i ≡ k = omega arith in absurd (here n (rw z at a))) (lt_cases i k);
-    lowest_one = λ i q a. ⊎_elim (λ g. best.lowest_one i g a) (λ g. omega (arith, best.passed)) (lt_cases i k);
+    fewest = below_more (λ i. (n : ℕ) → shows i n ≡ true → row.reports ≤ n) k best.fewest here;
+    lowest_one = below_more (λ i. shows i row.reports ≡ true → row.first ≤ i) k best.lowest_one (λ a. omega (arith, best.passed));
   }
+
+  -- none from start k shows it
+  best_kept : (best : Option Row) → BestBefore shows k best → ((n : ℕ) → ¬ (shows k n ≡ true)) → BestBefore shows (k + 1) best
+  best_kept None none here = below_more (λ i. (n : ℕ) → ¬ (shows i n ≡ true)) k none here
+  best_kept (Some row) best here = kept row best (λ n a. absurd (here n a))
 
   -- e reports from start k do, and fewer don't
   module _ (e : ℕ) (own : shows k e ≡ true) (from : (n : ℕ) → shows k n ≡ true → e ≤ n) where
-    pub best_step : (best : Option Row) → BestBefore shows k best → BestBefore shows (k + 1) (shorter best (record { first = k; reports = e }))
-    best_step None none = record {
+    -- they are the best, where all rows before have more
+    taken : ((i : ℕ) → i < k → (n : ℕ) → shows i n ≡ true → e < n) → Best shows (k + 1) (record { first = k; reports = e })
+    taken longer = record {
       shown = own;
       passed = omega arith;
-      fewest = λ i n q a. ⊎_elim (λ g. absurd (none i n g a)) (λ g. let z : i ≡ k = omega arith in from n (rw z at a)) (lt_cases i k);
-      lowest_one = λ i q a. ⊎_elim (λ g. absurd (none i e g a)) (λ g. g) (lt_cases i k);
+      fewest = below_more (λ i. (n : ℕ) → shows i n ≡ true → e ≤ n) k (λ i q n a. omega (arith, longer i q n a)) from;
+      lowest_one = below_more (λ i. shows i e ≡ true → k ≤ i) k (λ i q a. absurd (omega (arith, longer i q e a))) (λ a. omega arith);
     }
+
+    best_step : (best : Option Row) → BestBefore shows k best → BestBefore shows (k + 1) (shorter best (record { first = k; reports = e }))
+    best_step None none = taken (λ i q n a. absurd (none i q n a))
     best_step (Some row) best = pick (leb row.reports e) refl
       where
         pick : (t : Bool) → leb row.reports e ≡ t → BestBefore shows (k + 1) (cond t (Some row) (Some (record { first = k; reports = e })))
-        pick true t = record {
-          shown = best.shown;
-          passed = omega (arith, best.passed);
-          fewest = λ i n q a. ⊎_elim (λ g. best.fewest i n g a) (λ g. let z : i ≡ k = omega arith in let less = leb-true _ _ t in omega (arith, from n (rw z at a))) (lt_cases i k);
-          lowest_one = λ i q a. ⊎_elim (λ g. best.lowest_one i g a) (λ g. omega (arith, best.passed)) (lt_cases i k);
-        }
-        pick false t =
-            let less : e < row.reports = leb-false _ _ t in
-            record {
-              shown = own;
-              passed = omega arith;
-              fewest = λ i n q a. ⊎_elim (λ g. omega (arith, best.fewest i n g a)) (λ g. let z : i ≡ k = omega arith in from n (rw z at a)) (lt_cases i k);
-              lowest_one = λ i q a. ⊎_elim (λ g. absurd (omega (arith, best.fewest i e g a))) (λ g. g) (lt_cases i k);
-            }
+        pick true t = let few : row.reports ≤ e = leb-true _ _ t in kept row best (λ n a. omega (arith, from n a))
+        pick false t = let fewer : e < row.reports = leb-false _ _ t in taken (λ i q n a. omega (arith, best.fewest i q n a))
 
 pub row_means : (by : Measure) (s : Schedule) (x y i n : ℕ)
     → (row_shows by s x y i n ≡ true) ↔ ((x < minutes_in s i n) × (records_in s (i + skipped by) (n - 1) < y))
@@ -177,10 +174,10 @@ rows_again by s c gap_again size_again x y i n =
     rw (over, block_turned s.size c size_again i (skipped by) (n - 1))
 
 pub best_found : (shows : ℕ → ℕ → Bool) (c : ℕ) → 0 < c → ((i n : ℕ) → shows (i % c) n ≡ shows i n) → (best : Option Row) → BestBefore shows c best → Found shows c best
-best_found shows c some again None none = λ i n a. none (i % c) n (mod-lt i some) (again i n ∙ a)
+best_found shows c some again None none = λ i n a. none (i % c) (mod-lt i some) n (again i n ∙ a)
 best_found shows c some again (Some row) best = record {
   shown = best.shown;
-  fewest = λ i n a. best.fewest (i % c) n (mod-lt i some) (again i n ∙ a);
+  fewest = λ i n a. best.fewest (i % c) (mod-lt i some) n (again i n ∙ a);
   lowest_one = λ i a. omega (arith, best.lowest_one (i % c) (mod-lt i some) (again i row.reports ∙ a), mod-le i c);
   inside = best.passed;
 }

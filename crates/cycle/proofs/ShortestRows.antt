@@ -58,7 +58,7 @@ module _ (shows : ℕ → ℕ → Bool) (c m : ℕ) (some : 0 < c) (again : (i n
       let best : Best shows c (record { first = lowest shows c k; reports = k }) = record {
         shown = first_passes (λ i. shows i k) c 0 (omega (arith, inside));
         passed = inside;
-        fewest = λ i n q e. least.least n (omega arith) (here i n q e);
+        fewest = λ i q n e. least.least n (omega arith) (here i n q e);
         lowest_one = λ i q e. (low i k q e).least i (omega arith) e;
       } in (
         record { first = lowest shows c k; reports = k },

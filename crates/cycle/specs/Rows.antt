@@ -45,12 +45,12 @@ without_first row = record { first = row.first; reports = row.reports - 1 }
 pub record Best (shows : ℕ → ℕ → Bool) (k : ℕ) (row : Row) : Type 0 where
   pub shown : shows row.first row.reports ≡ true
   pub passed : row.first < k
-  pub fewest : (i n : ℕ) → i < k → shows i n ≡ true → row.reports ≤ n
+  pub fewest : (i : ℕ) → i < k → (n : ℕ) → shows i n ≡ true → row.reports ≤ n
   pub lowest_one : (i : ℕ) → i < k → shows i row.reports ≡ true → row.first ≤ i
 
 -- such a row, or that none of them shows it
 abbrev pub BestBefore : (ℕ → ℕ → Bool) → ℕ → Option Row → Type 0
-BestBefore shows k None = (i n : ℕ) → i < k → ¬ (shows i n ≡ true)
+BestBefore shows k None = (i : ℕ) → i < k → (n : ℕ) → ¬ (shows i n ≡ true)
 BestBefore shows k (Some row) = Best shows k row
 
 -- the shortest of all rows, or that none shows it

@@ -62,7 +62,7 @@ pub record IsShortest (shows : ℕ → ℕ → Bool) (c : ℕ) (row : Row) : Typ
   pub lowest_one : (i : ℕ) → shows i row.reports ≡ true → row.first ≤ i
   pub inside : row.first < c
 
--- there is such a rate, and of its shortest row this is what is given
+-- the rate is there, and its shortest row in the cycle's endless run is what is given
 abbrev pub IsGiven : (Rate → Schedule → ℕ → ℕ → Bool) → Option Rate → List Pair → Option Row → Type 0
 IsGiven shows rate ps given =
     (x : Rate) × ((row : Row) × ((rate ≡ Some x) × ((given ≡ Some row) × IsShortest (shows x (cycle_run ps)) (length ps) row)))

@@ -107,6 +107,7 @@ sum_rounds f c h i (suc u) = rw (suc-mul, suc-mul, ← add_assoc i (u * c) c, su
 pub block_round : (f : ℕ → ℕ) (c : ℕ) → ((i : ℕ) → f (i + c) ≡ f i) → (i : ℕ) → block f i c ≡ sum f c
 block_round f c h i = omega (arith, sum_add f i c, sum_again f c h i)
 
+-- and any number of rounds later each is the same
 pub rounds_again : (f : ℕ → ℕ) (c : ℕ) → ((i : ℕ) → f (i + c) ≡ f i) → (i q : ℕ) → f (i + q * c) ≡ f i
 rounds_again f c h i zero = rw (zero-mul, add-zero)
 rounds_again f c h i (suc q) = rw (suc-mul, ← add_assoc i (q * c) c, h (i + q * c)) (rounds_again f c h i q)
