@@ -1,11 +1,11 @@
 -- What is given beside the check's number. A 15 or a 16 is the cycle's own number, so its specification is accepted, its count is right, and no gap
 -- and no size is 0: some row shows it (proofs/Shown.antt), no longer than the minutes, and the shortest is given.
-use Prim.Native.Nat.{ℕ, ◌≤◌, ◌<◌}
+use Prim.Native.Nat.{ℕ, ◌+◌, ◌≤◌, ◌<◌}
 use native.Mathlib.Omega.{arith}
 use native.Mathlib.Decide.{ℕ_discrete}
 use mathlib.Core.Path.{◌≡◌, refl, sym, ◌∙◌, ap}
 use mathlib.Core.Logic.{◌↔◌, ⊎_elim}
-use mathlib.Core.Bool.{true}
+use mathlib.Core.Bool.{Bool, true, and-eq-true_iff}
 use mathlib.Core.List.{List}
 use lib.ListN.{length}
 use borrow.Author.Tests.{eq-eqb, ne_eqb, le-leb}
@@ -13,7 +13,8 @@ use Rattle.std.specs.Prelude.{Option, None, Some}
 use Rattle.numbers.proofs.Cases.{lt_cases}
 use Rattle.spec.specs.declared.Rate.{Rate}
 use Rattle.spec.specs.declared.Spec.{Spec}
-use Rattle.spec.proofs.Facts.{facts, size_allowed_iff}
+use Rattle.spec.specs.Limits.{rate_limits}
+use Rattle.spec.proofs.Facts.{leb_iff, facts, size_allowed_iff}
 use Rattle.pairs.specs.declared.Pair.{Pair}
 use Rattle.pairs.specs.Pairs.{that_fit}
 use Rattle.schedule.specs.Schedules.{Schedule, stretch}
@@ -22,7 +23,7 @@ use Rattle.cycle.specs.declared.Row.{Row}
 use Rattle.cycle.specs.declared.windows.Measure.TheVariants.{Minutes, Records}
 use Rattle.cycle.specs.Cycles.{cycle_run}
 use Rattle.cycle.specs.Check.{gaps_allowed, sizes_allowed, check_number}
-use Rattle.cycle.specs.Shortest.{shows_full, shows_thin, shortest_full, shortest_thin, shortest_stretch, IsGiven}
+use Rattle.cycle.specs.Shortest.{shows_full, shows_thin, shortest_full, shortest_thin, shortest_stretch, IsShortest, IsGiven}
 use Rattle.cycle.specs.Windows.{pairs_in, Walkable}
 use Rattle.cycle.proofs.Chunks.{length_pairs_in}
 use Rattle.cycle.proofs.Runs.{gap_again, size_again, sizes_right}
@@ -32,7 +33,7 @@ use Rattle.cycle.proofs.Planned.{accepted_judges}
 use Rattle.cycle.proofs.CyclesPassed.{cycle_own, cycle_said, supply_refused, demand_refused}
 use Rattle.cycle.proofs.ShortestRows.{shortest_is}
 use Rattle.cycle.proofs.ShownRows.{by_records, full_few, thin_few, full_again, thin_again}
-use Rattle.cycle.proofs.Shown.{full_shown, thin_shown}
+use Rattle.cycle.proofs.Shown.{full_most, thin_most, full_shown, thin_shown}
 
 -- a cycle that got as far as its stretches
 pub record Reached (ps : List Pair) : Type 0 where
@@ -112,6 +113,30 @@ module _ (spec : Spec) (ps : List Pair) where
     where
       not_some : {row : Row} → ¬ (None ≡ Some row)
       not_some e = cc
+
+  -- B and L are 20,000 at most
+  given_few : (shows : Rate → Schedule → ℕ → ℕ → Bool) (rate : Option Rate) → rate_limits rate ≡ true → IsGiven shows rate ps (shortest_stretch spec ps)
+      → ((x : Rate) (row : Row) → IsShortest (shows x (cycle_run ps)) (length ps) row → row.reports ≤ x.records + 1)
+      → (row : Row) → shortest_stretch spec ps ≡ Some row → row.reports ≤ 20001
+  unfolding rate_limits
+  given_few shows rate limits (x, (other, (is, (given, shortest)))) most row e =
+      let same : Some row ≡ Some other = sym e ∙ given in
+      let one : row ≡ other = cc in
+      let fits = simp (and-eq-true_iff, leb_iff) at (rw is at limits) in
+      rw one (omega (arith, most x other shortest))
+
+  pub few_shown : (row : Row) → shortest_stretch spec ps ≡ Some row → row.reports ≤ 20001
+  few_shown row e = elim (ℕ_discrete (check_number spec ps) 15) [
+    | yes h ↦
+        let r = reached spec ps 15 (omega arith) (omega arith) h in
+        given_few shows_full spec.supply (facts spec (cycle_own spec ps 15 (omega arith) (omega arith) h).0).supply (shown_15 h) (λ x. full_most (cycle_run ps) r.sizes x (length ps)) row e
+    | no h ↦ elim (ℕ_discrete (check_number spec ps) 16) [
+      | yes k ↦
+          let r = reached spec ps 16 (omega arith) (omega arith) k in
+          given_few shows_thin spec.demand (facts spec (cycle_own spec ps 16 (omega arith) (omega arith) k).0).demand (shown_16 k) (λ x. thin_most (cycle_run ps) r.sizes x (length ps)) row e
+      | no k ↦ absurd (let z : None ≡ Some row = sym (given_other h k) ∙ e in let y : ◌≡◌ {A = ℕ} 0 1 = cc in omega arith)
+    ]
+  ]
 
 -- of more than 512 pairs no more is shown than of none
 pub fit_shortest : (spec : Spec) (ps : List Pair) → shortest_stretch spec (that_fit 512 ps) ≡ shortest_stretch spec ps

@@ -3,6 +3,7 @@
 -- among the reports of a row. So a check that says 15 or 16 has a row to give, and every row that is given shows it.
 use Prim.Native.Nat.{ℕ, ◌+◌, ◌-◌, ◌≤◌, ◌<◌}
 use native.Mathlib.Omega.{arith}
+use native.Mathlib.Nat.{mul-one}
 use mathlib.Core.Path.{◌≡◌}
 use mathlib.Core.Logic.{◌↔◌, ⊎_elim}
 use mathlib.Core.Bool.{true}
@@ -14,11 +15,12 @@ use Rattle.spec.specs.declared.Rate.{Rate}
 use Rattle.pairs.specs.declared.Pair.{Pair}
 use Rattle.schedule.specs.Schedules.{Schedule, minute, stretch}
 use Rattle.schedule.specs.Rules.{TooFull, TooThin}
-use Rattle.schedule.proofs.Sums.{block, block_some, block_part}
-use Rattle.schedule.proofs.Before.{reports_before, minute_least, before_iff, before_reach, before_mono, before_minute, before_next, stretch_before, fullest_at_report, thinnest_after_report}
+use Rattle.schedule.proofs.Sums.{block, block_some, block_least, block_part}
+use Rattle.schedule.proofs.Before.{reports_before, minute_mono, minute_least, before_iff, before_reach, before_mono, before_minute, before_next, stretch_before, fullest_at_report, thinnest_after_report}
 use Rattle.schedule.proofs.Repeats.{stretch_again}
 use Rattle.cycle.specs.Cycles.{cycle_run}
-use Rattle.cycle.specs.Shortest.{records_in, shows_full, shows_thin}
+use Rattle.cycle.specs.declared.Row.{Row}
+use Rattle.cycle.specs.Shortest.{records_in, shows_full, shows_thin, IsShortest}
 use Rattle.cycle.proofs.Runs.{gap_again, size_again}
 use Rattle.cycle.proofs.ShownRows.{full_means, thin_means}
 
@@ -65,6 +67,27 @@ module _ (s : Schedule) (later : (i : ℕ) → 1 ≤ s.gap i) (x : Rate) where
       let past : i + (n + 1) ≡ end = omega arith in
       let apart : minute s i + x.minutes < minute s (i + (n + 1)) = rw past (omega (arith, before_reach s later (t + x.minutes))) in
       (i, (n, (thin_means s x i n).1 (apart, omega (arith, thinnest_after_report s later a x.minutes some))))
+
+-- where no size is 0, the shortest row has not many reports: of a 15 all but the last hold no more than B, of a 16 all hold less than L
+module _ (s : Schedule) (sizes : (i : ℕ) → 1 ≤ s.size i) (x : Rate) (c : ℕ) where
+  records_least : (i n : ℕ) → n ≤ records_in s i n
+  unfolding block
+  records_least i n = rw mul-one at (block_least s.size 1 sizes i n)
+
+  pub full_most : (row : Row) → IsShortest (shows_full x s) c row → row.reports ≤ x.records + 1
+  full_most row is =
+      ⊎_elim
+      (λ more.
+      let n = row.reports - 1 in
+      let near = ((full_means s x row.first row.reports).0 is.shown).1 in
+      let earlier = minute_mono s (row.first + (n - 1)) (row.first + n) (omega arith) in
+      let shown = (full_means s x row.first n).1 (omega (arith, records_least row.first n), omega arith) in
+      absurd (omega (arith, is.fewest row.first n shown)))
+      (λ few. few)
+      (lt_cases (x.records + 1) row.reports)
+
+  pub thin_most : (row : Row) → IsShortest (shows_thin x s) c row → row.reports ≤ x.records + 1
+  thin_most row is = omega (arith, ((thin_means s x row.first row.reports).0 is.shown).1, records_least (row.first + 1) row.reports)
 
 -- of a cycle, whose stretches from minute 0 on are like those a round later
 module _ (ps : List Pair) (some : 1 ≤ length ps) (later : (i : ℕ) → 1 ≤ (cycle_run ps).gap i) (x : Rate) where

@@ -48,7 +48,7 @@ use Rattle.cycle.proofs.LatePassed.{late_passed, late_gap, late_size, late_full,
 use Rattle.cycle.proofs.Rounds.{whole_rounds}
 use Rattle.cycle.proofs.Runs.{gaps_later}
 use Rattle.cycle.proofs.Shown.{full_shown, thin_shown}
-use Rattle.cycle.proofs.SentBack.{shown_15, shown_16, none_shown}
+use Rattle.cycle.proofs.SentBack.{shown_15, shown_16, few_shown, none_shown}
 use Rattle.cost.proofs.Rounds.{plan_in_rounds, cycle_in_rounds}
 use Rattle.cost.proofs.Billing.{plan_billed, plan_in_bands, cycle_billed, cycle_in_bands}
 use Rattle.cyclefile.specs.File.{cycle_bytes, read_cycle, write_number, Reads, bytes_after}
@@ -249,6 +249,7 @@ demands = record {
   rows_too_thin = λ x c some no_gap_0. thin_shown c some (gaps_later c some no_gap_0) x;
   shown_15 = shown_15;
   shown_16 = shown_16;
+  few_shown = few_shown;
   none_shown = none_shown;
   test_obeys = test_sound;
   even_obeys = even_plan_obeys;

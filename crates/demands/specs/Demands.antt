@@ -33,6 +33,7 @@ use Rattle.pairs.specs.declared.Pair.{Pair}
 use Rattle.cycle.specs.Cycles.{pair_gap, cycle_run, round, round_records}
 use Rattle.cycle.specs.Check.{check_number, check_file_number}
 use Rattle.cycle.specs.LateCheck.{late_number, late_file_number}
+use Rattle.cycle.specs.declared.Row.{Row}
 use Rattle.cycle.specs.Shortest.{shows_full, shows_thin, shortest_stretch, IsGiven}
 use Rattle.normal.specs.Normal.{in_order, normal_form}
 use Rattle.normal.specs.Answers.{normalised, places_after}
@@ -308,6 +309,8 @@ pub record Demands : Type 0 where
   -- it, anywhere in the endless run, has at least as many, and none with as many has a lower number; and the number is below the count of pairs.
   pub shown_15 : (s : Spec) (c : List Pair) → check_number s c ≡ 15 → IsGiven shows_full s.supply c (shortest_stretch s c)
   pub shown_16 : (s : Spec) (c : List Pair) → check_number s c ≡ 16 → IsGiven shows_thin s.demand c (shortest_stretch s c)
+  -- they are 20,001 reports at most
+  pub few_shown : (s : Spec) (c : List Pair) (row : Row) → shortest_stretch s c ≡ Some row → row.reports ≤ 20_001
   -- a cycle with another answer gets just that, and no other does
   pub none_shown : (s : Spec) (c : List Pair) → (shortest_stretch s c ≡ None) ↔ (¬ (check_number s c ≡ 15) × ¬ (check_number s c ≡ 16))
   -- the endless run of every plan that the test passed obeys them
