@@ -6,7 +6,7 @@ use mathlib.Core.Bool.{cond}
 use lib.Dec.{eqb}
 use Rattle.std.specs.Prelude.{Result, Err}
 use Rattle.spec.specs.declared.refusal.Refusal.{Refusal}
-use Rattle.spec.specs.declared.refusal.Refusal.TheVariants.{Map, Length, Limits, Order, Ranges, TwoRanges, RateAbsent, NoSchedule, NotPassed, NoEvenPlan, NotProper, Count, Gap, Size, TooFull, TooThin, TooLate, PairMap, Cut, NotLeftOut, NoRoom, BytesOver, NoPlace, Backwards, WeekTable, Closed, SameDay}
+use Rattle.spec.specs.declared.refusal.Refusal.TheVariants.{Map, Length, Limits, Order, Ranges, TwoRanges, RateAbsent, NoSchedule, NotPassed, NoEvenPlan, NotProper, Count, Gap, Size, TooFull, TooThin, TooLate, PairMap, Cut, NotLeftOut, NoRoom, BytesOver, NoPlace, Backwards, WeekTable, Closed, SameDay, NoBoxPlan}
 use borrow.Author.Tests.{ne_eqb}
 use Rattle.spec.specs.Limits.{if_none}
 use Rattle.spec.specs.Refusals.{number_of, numbered, answer_number}
@@ -39,6 +39,7 @@ number_of_some Backwards = omega arith
 number_of_some WeekTable = omega arith
 number_of_some Closed = omega arith
 number_of_some SameDay = omega arith
+number_of_some NoBoxPlan = omega arith
 
 -- so an answer whose number is that of a refusal is no 0
 pub refused_some : (r : Refusal) (n : ℕ) → number_of r ≡ n → ¬ (n ≡ 0)
@@ -73,7 +74,8 @@ name_of n =
     (cond (eqb n 26) TooLate
     (cond (eqb n 27) WeekTable
     (cond (eqb n 28) Closed
-    (SameDay))))))))))))))))))))))))))
+    (cond (eqb n 29) SameDay
+    (NoBoxPlan)))))))))))))))))))))))))))
 
 name_back : (r : Refusal) → name_of (number_of r) ≡ r
 name_back Map = refl
@@ -103,6 +105,7 @@ name_back TooLate = refl
 name_back WeekTable = refl
 name_back Closed = refl
 name_back SameDay = refl
+name_back NoBoxPlan = refl
 
 pub number_of_apart : (a b : Refusal) → number_of a ≡ number_of b → a ≡ b
 number_of_apart a b e = sym (name_back a) ∙ ap name_of e ∙ name_back b

@@ -1,8 +1,9 @@
 -- Documents 01 and 02, "What each operation turns down, in order": "A refusal yields its number, the first that applies". The definitions of
--- every crate give the numbers; the code names its refusals, and here is which name has which number.
+-- every crate give the numbers; the code names its refusals, and here is which name has which number. 30, of the box plan, is ours
+-- (docs/DECISIONS.md).
 use Rattle.std.specs.Prelude.{ℕ, Result, Ok, Err}
 use Rattle.spec.specs.declared.refusal.Refusal.{Refusal}
-use Rattle.spec.specs.declared.refusal.Refusal.TheVariants.{Map, Length, Limits, Order, Ranges, TwoRanges, RateAbsent, NoSchedule, NotPassed, NoEvenPlan, NotProper, Count, Gap, Size, TooFull, TooThin, TooLate, PairMap, Cut, NotLeftOut, NoRoom, BytesOver, NoPlace, Backwards, WeekTable, Closed, SameDay}
+use Rattle.spec.specs.declared.refusal.Refusal.TheVariants.{Map, Length, Limits, Order, Ranges, TwoRanges, RateAbsent, NoSchedule, NotPassed, NoEvenPlan, NotProper, Count, Gap, Size, TooFull, TooThin, TooLate, PairMap, Cut, NotLeftOut, NoRoom, BytesOver, NoPlace, Backwards, WeekTable, Closed, SameDay, NoBoxPlan}
 
 -- each number is given to one name. 7, which "carries the first condition that fails", is the crate `consistency`'s; 8 is no longer given
 abbrev pub number_of : Refusal → ℕ
@@ -33,6 +34,7 @@ number_of TooLate = 26
 number_of WeekTable = 27
 number_of Closed = 28
 number_of SameDay = 29
+number_of NoBoxPlan = 30
 
 -- an answer of the code with its refusal's number in place of the name, as the definitions give it
 abbrev pub numbered : {A : Type 0} → Result A Refusal → Result A ℕ

@@ -1,4 +1,4 @@
-// The refusals of documents 01 and 02, by name, and their numbers.
+// The refusals of documents 01 and 02, and 30, which is ours, by name, and their numbers.
 ghost use Rattle.std.specs.Prelude.{◌≡◌};
 ghost use Rattle.spec.specs.Refusals.{number_of, answer_number};
 
@@ -43,6 +43,8 @@ pub enum Refusal {
     Closed = 28,
     // Which of two dated cycle files is in force, beside the numbers of reading one.
     SameDay = 29,
+    // The box plan.
+    NoBoxPlan = 30,
 }
 
 impl Refusal {
