@@ -12,6 +12,11 @@ unfoldable pub joined_end : ℕ → Option Range → ℕ
 joined_end smax None = smax
 joined_end smax (Some x) = cond (eqb x.min (smax + 1)) x.max smax
 
+-- and the second range, where it is not joined to the first
+unfoldable pub second_apart : ℕ → Option Range → Option Range
+second_apart smax None = None
+second_apart smax (Some x) = cond (eqb x.min (smax + 1)) None (Some x)
+
 -- a range without its first J and its last J numbers
 unfoldable pub shortened : ℕ → Option Range → Option Range
 shortened lateness None = None
@@ -26,7 +31,7 @@ planned_spec spec lateness = record {
   supply = late_supply lateness spec.supply;
   demand = late_demand lateness spec.demand;
   duration = spec.duration;
-  second = shortened lateness spec.second;
+  second = shortened lateness (second_apart spec.smax spec.second);
 }
 
 -- that specification, after 3, 4, 24 and 26

@@ -6,7 +6,7 @@
 
 ghost use Rattle.std.specs.Prelude.{◌≡◌, ◌≤◌};
 ghost use Rattle.spec.specs.Refusals.{numbered};
-ghost use Rattle.lateness.specs.PlannedSpec.{joined_end, planned_spec, planned_for};
+ghost use Rattle.lateness.specs.PlannedSpec.{joined_end, second_apart, planned_spec, planned_for};
 
 use spec::refusal::Refusal;
 use spec::{Accepted, Range, Rate, Spec};
@@ -23,6 +23,18 @@ fn joined_end(smax: u16, second: Option<Range>) -> u16
     match second {
         Some(x) if x.min == smax + 1 => x.max,
         _ => smax,
+    }
+}
+
+// The second range, where it is not joined to the first.
+#[tactic(auto, unfolding(crate::specs::PlannedSpec::second_apart))]
+fn second_apart(smax: u16, second: Option<Range>) -> Option<Range>
+    requires { smax ≤ 20160 }
+    ensures { result ≡ second_apart smax second }
+{
+    match second {
+        Some(x) if x.min == smax + 1 => None,
+        _ => second,
     }
 }
 
@@ -45,7 +57,7 @@ fn planned_spec(accepted: Accepted, lateness: u16) -> Spec
             records: x.records,
             minutes: x.minutes.saturating_sub(lateness),
         }),
-        second: spec.second.map(|x| Range {
+        second: second_apart(spec.smax, spec.second).map(|x| Range {
             min: x.min + lateness,
             max: x.max.saturating_sub(lateness),
         }),

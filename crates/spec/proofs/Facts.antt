@@ -189,6 +189,17 @@ gap_allowed_least s g a e =
 pub gap_allowed_pos : (s : Spec) (g : ℕ) → IsAccepted s → gap_allowed s g ≡ true → 1 ≤ g
 gap_allowed_pos s g a e = omega (arith, (facts s a).gap_low, gap_allowed_least s g a e)
 
+-- where the first range ends no later than the second, no longer gap is allowed
+pub allowed_top : (s : Spec) → s.smax ≤ gap_top s → (g : ℕ) → gap_allowed s g ≡ true → g ≤ gap_top s
+unfolding top_of
+allowed_top s rises g e =
+    ⊎_elim
+    (λ h. omega (arith, h.1, rises))
+    (λ h.
+    let k = (in_range_iff s.second g).0 h in
+    rw k.2 k.4)
+    ((gap_allowed_iff s g).0 e)
+
 module _ (s : Spec) (a : IsAccepted s) where
   -- the top is at least smax, and at least every gap of the second range
   top_bounds : (x : Option Range) → s.second ≡ x → (s.smax ≤ top_of x s.smax) × (top_of x s.smax ≤ 20160)
@@ -196,15 +207,11 @@ module _ (s : Spec) (a : IsAccepted s) where
   top_bounds None e = (omega arith, (facts s a).gap_high)
   top_bounds (Some x) e = let k = second_range s x.min x.max a e in (omega (arith, k.above, k.order), k.high)
 
+  pub ranges_rise : s.smax ≤ gap_top s
+  ranges_rise = (top_bounds s.second refl).0
+
   pub gap_allowed_top : (g : ℕ) → gap_allowed s g ≡ true → g ≤ gap_top s
-  unfolding top_of
-  gap_allowed_top g e =
-      ⊎_elim
-      (λ h. omega (arith, h.1, (top_bounds s.second refl).0))
-      (λ h.
-      let k = (in_range_iff s.second g).0 h in
-      rw k.2 k.4)
-      ((gap_allowed_iff s g).0 e)
+  gap_allowed_top g e = allowed_top s ranges_rise g e
 
   pub gap_top_high : gap_top s ≤ 20160
   gap_top_high = (top_bounds s.second refl).1
