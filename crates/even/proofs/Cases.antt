@@ -14,7 +14,7 @@ use Rattle.spec.specs.Refusals.{numbered}
 use Rattle.spec.proofs.GoingOn.{goes_on}
 use Rattle.plan.specs.declared.Plan.{Plan}
 use Rattle.even.specs.Even.{even_gap, even_plan_at, plan_or10, even_plan}
-use Rattle.even.specs.Search.{gap_number}
+use Rattle.even.specs.Jump.{gap_number}
 
 module _ (s : Spec) (ok : IsAccepted s) where
   pub plan_none : 0 ≡ even_gap s → Err 10 ≡ even_plan s

@@ -1,7 +1,7 @@
 -- At an allowed gap that fits an endless list of sizes obeys the rules: the even sizes, of which n neighbours hold about n × δ / m.
 use Prim.Native.Nat.{ℕ, ◌+◌, ◌*◌, ◌≤◌, ◌<◌}
 use native.Mathlib.Omega.{arith}
-use native.Mathlib.Nat.{le_trans, le_refl, zero-mul, le-max_left, le-max_right, max-le, mul-le-mul_left}
+use native.Mathlib.Nat.{le_trans, zero-mul, le-max_left, le-max_right, max-le, mul-le-mul_left}
 use mathlib.Core.Path.{◌≡◌}
 use mathlib.Core.Bool.{true, and-eq-true_iff}
 use borrow.Author.Tests.{leb-true}
@@ -57,7 +57,7 @@ module _ (g : ℕ) (pos : 0 < g) where
       let some : ¬ (m ≡ 0) = λ z. let none = rw (z, zero-mul) at can in omega arith in
       record { some = omega arith; low = total_full x dmin m; high = total_least x dmin m (m * dmax) (mul-le-mul_left m h) can }
 
-  supply_kept : (r : Option Rate) (m δ : ℕ) → 0 < m → supply_fits r g m δ ≡ true → SupplyKept r (stretch (evenly g (even_size m δ)))
+  pub supply_kept : (r : Option Rate) (m δ : ℕ) → 0 < m → supply_fits r g m δ ≡ true → SupplyKept r (stretch (evenly g (even_size m δ)))
   unfolding supply_fits
   supply_kept None m δ h e = tt
   supply_kept (Some x) m δ h e = λ a.
@@ -66,14 +66,19 @@ module _ (g : ℕ) (pos : 0 < g) where
       (le_trans (block_part (even_size m δ) (ceil a g) _ (ceil r g) (omega (arith, ceil_add_most g pos a r)))
       (even_block_most m δ h x.records (ceil a g) (ceil r g) (leb-true _ _ e)))
 
+  -- where q reports in a row hold t, and q × L is at most k × t, any k hold L
+  pub shared_met : (x : Rate) (q t : ℕ) → 0 < q → q * x.records ≤ count_at (Some x) g * t → DemandMet (Some x) (stretch (evenly g (even_size q t)))
+  shared_met x q t some h = λ a.
+      let k = count_at (Some x) g in
+      rw (even_stretch g pos (even_size q t) a x.minutes)
+      (le_trans (even_block_least q t some x.records (ceil a g) k h)
+      (block_part (even_size q t) (ceil a g) k _ (omega (arith, count_fewest x g pos a))))
+
   demand_met : (r : Option Rate) (dmin : ℕ) → 0 < count_at r g → DemandMet r (stretch (evenly g (even_size (count_at r g) (total_of r dmin (count_at r g)))))
   demand_met None dmin h = tt
-  demand_met (Some x) dmin h = λ a.
+  demand_met (Some x) dmin h =
       let m = count_at (Some x) g in
-      let δ = total_of (Some x) dmin m in
-      rw (even_stretch g pos (even_size m δ) a x.minutes)
-      (le_trans (le_trans (total_enough x dmin m) (even_block_least m δ h δ (ceil a g) m (le_refl _)))
-      (block_part (even_size m δ) (ceil a g) m _ (omega (arith, count_fewest x g pos a))))
+      shared_met x m (total_of (Some x) dmin m) h (mul-le-mul_left m (total_enough x dmin m))
 
 -- the even plan's sizes at a gap g
 abbrev pub sizes_at : Spec → ℕ → ℕ → ℕ

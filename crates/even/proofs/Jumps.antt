@@ -10,7 +10,7 @@ use Rattle.std.specs.Prelude.{Option, None, Some}
 use Rattle.spec.specs.declared.Rate.{Rate}
 use Rattle.spec.specs.declared.Spec.{Spec}
 use Rattle.even.specs.Even.{count_at, total_of, demand_fits, supply_fits, fits}
-use Rattle.even.specs.Search.{next_gap}
+use Rattle.even.specs.Jump.{next_gap}
 use Rattle.numbers.proofs.Ceilings.{ceil_falls}
 
 supply_longer : (r : Option Rate) (t s m δ : ℕ) → 0 < t → t ≤ s → supply_fits r t m δ ≡ true → supply_fits r s m δ ≡ true
@@ -35,7 +35,7 @@ next_gap_less (Some x) s pos =
     (div-lt_iff_lt-mul {k = p / s + 1} {x = p} {y = s} (omega arith)).1
     (rw mul_comm (omega (arith, add-mul (p / s) 1 s, lt-div-mul-add {a = p} {b = s} pos)))
 
-same_count : (d : Option Rate) (s t : ℕ) → 0 < s → next_gap d s < t → t ≤ s → count_at d t ≡ count_at d s
+pub same_count : (d : Option Rate) (s t : ℕ) → 0 < s → next_gap d s < t → t ≤ s → count_at d t ≡ count_at d s
 unfolding next_gap count_at
 same_count None s t pos a b = refl
 same_count (Some x) s t pos a b =

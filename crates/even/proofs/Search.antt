@@ -12,7 +12,8 @@ use Rattle.spec.specs.declared.Spec.{Spec}
 use Rattle.spec.specs.Limits.{between}
 use Rattle.numbers.proofs.Cases.{lt_cases}
 use Rattle.even.specs.Even.{fits, largest}
-use Rattle.even.specs.Search.{gap_number, even_gap_in, next_gap}
+use Rattle.even.specs.Jump.{gap_number, next_gap}
+use Rattle.even.specs.Search.{largest_in}
 use Rattle.even.proofs.Jumps.{next_gap_less, next_gap_skips}
 
 module _ (ok : ℕ → Bool) where
@@ -67,33 +68,38 @@ new_number None n e = sym e
 new_number (Some s) n e = e
 
 -- The search in the range lo to hi: what it has yet to find where s is the gap to try next
-unfoldable pub left_from : Spec → ℕ → ℕ → ℕ → ℕ
-left_from spec lo hi s = largest (λ t. between lo hi t && fits spec t) s
+unfoldable pub left_from : (ℕ → Bool) → ℕ → ℕ → ℕ → ℕ
+left_from ok lo hi s = largest (λ t. between lo hi t && ok t) s
 
-module _ (spec : Spec) (lo hi : ℕ) where
-  pub search_starts : left_from spec lo hi hi ≡ even_gap_in spec lo hi
-  unfolding left_from even_gap_in
+module _ (ok : ℕ → Bool) (lo hi : ℕ) where
+  pub search_starts : left_from ok lo hi hi ≡ largest_in ok lo hi
+  unfolding left_from largest_in
   search_starts = refl
 
-  pub search_hits : (s : ℕ) → 0 < s → lo ≤ s → s ≤ hi → fits spec s ≡ true → left_from spec lo hi s ≡ s
+  pub search_hits : (s : ℕ) → 0 < s → lo ≤ s → s ≤ hi → ok s ≡ true → left_from ok lo hi s ≡ s
   unfolding left_from
   search_hits s pos a b e =
-      largest_top (λ t. between lo hi t && fits spec t) s pos (rw (le-leb lo s a, le-leb s hi b, e))
+      largest_top (λ t. between lo hi t && ok t) s pos (rw (le-leb lo s a, le-leb s hi b, e))
 
-  pub search_jumps : (s : ℕ) → 0 < s → fits spec s ≡ false → left_from spec lo hi s ≡ left_from spec lo hi (next_gap spec.demand s)
+  -- down to the next one, where all from s on fail
+  pub search_skips : (r s : ℕ) → r ≤ s → ((t : ℕ) → r < t → t ≤ s → ok t ≡ false) → left_from ok lo hi s ≡ left_from ok lo hi r
   unfolding left_from
-  search_jumps s pos e =
-      largest_skip (λ t. between lo hi t && fits spec t) (next_gap spec.demand s) s
-      (omega (arith, next_gap_less spec.demand s pos))
-      (λ t p q. rw (next_gap_skips spec s t pos p q e, and-false))
+  search_skips r s under fail = largest_skip (λ t. between lo hi t && ok t) r s under (λ t p q. rw (fail t p q, and-false))
 
-  pub search_done : left_from spec lo hi 0 ≡ 0
+  pub search_done : left_from ok lo hi 0 ≡ 0
   unfolding left_from largest
   search_done = refl
 
-  pub search_ends : (s : ℕ) → s < lo → left_from spec lo hi s ≡ 0
+  pub search_ends : (s : ℕ) → s < lo → left_from ok lo hi s ≡ 0
   unfolding left_from largest
-  search_ends s h = largest_skip (λ t. between lo hi t && fits spec t) 0 s (omega arith) (λ t p q. rw (lt-leb lo t (omega arith)))
+  search_ends s h = largest_skip (λ t. between lo hi t && ok t) 0 s (omega arith) (λ t p q. rw (lt-leb lo t (omega arith)))
+
+-- where the gap s doesn't fit, those that are jumped over don't either
+pub search_jumps : (spec : Spec) (lo hi s : ℕ) → 0 < s → fits spec s ≡ false → left_from (fits spec) lo hi s ≡ left_from (fits spec) lo hi (next_gap spec.demand s)
+search_jumps spec lo hi s pos e =
+    search_skips (fits spec) lo hi (next_gap spec.demand s) s
+    (omega (arith, next_gap_less spec.demand s pos))
+    (λ t p q. next_gap_skips spec s t pos p q e)
 
 -- what the search goes by
 pub ruleset searching = (new_number, next_gap_less, search_starts, search_hits, search_jumps, search_ends, search_done)

@@ -18,7 +18,8 @@ use Rattle.spec.specs.Limits.{range_of, IsAccepted}
 use Rattle.spec.proofs.Facts.{facts, second_range}
 use Rattle.spec.proofs.KnownRates.{present_limits}
 use Rattle.numbers.proofs.Cases.{lt_cases}
-use Rattle.even.specs.Search.{next_gap, tries, tries_of, FewTries}
+use Rattle.even.specs.Jump.{next_gap}
+use Rattle.even.specs.Search.{tries, tries_of, FewTries}
 use Rattle.even.proofs.Jumps.{next_gap_less}
 
 -- what is told of each gap
@@ -117,15 +118,16 @@ TriesWithin b spec n =
     ((lo hi : ℕ) → 0 < lo → tries spec.demand lo n hi ≤ b)
     × (tries_of spec.demand spec.second n + tries_of spec.demand (Some (range_of spec.smin spec.smax)) n ≤ b + 1)
 
--- so it is where no more than b are left at any gap
-module _ (spec : Spec) (ok : IsAccepted spec) (left : ℕ → ℕ) (known : Left spec.demand left) (b n : ℕ) (most : (s : ℕ) → left s ≤ b) where
-  of_one : (lo hi : ℕ) → 0 < lo → tries spec.demand lo n hi ≤ b
-  of_one lo hi low =
-      ⊎_elim
-      (λ some. omega (arith, tries_left spec.demand left known lo low n hi some, most hi))
-      (λ none. omega (arith, tries_end spec.demand left known lo low n hi (omega arith)))
-      (lt_cases 0 hi)
+-- so it is where no more than b are left at any gap: of one range, whatever the specification,
+of_one : (d : Option Rate) (left : ℕ → ℕ) → Left d left → (b : ℕ) → ((s : ℕ) → left s ≤ b) → (n lo hi : ℕ) → 0 < lo → tries d lo n hi ≤ b
+of_one d left known b most n lo hi low =
+    ⊎_elim
+    (λ some. omega (arith, tries_left d left known lo low n hi some, most hi))
+    (λ none. omega (arith, tries_end d left known lo low n hi (omega arith)))
+    (lt_cases 0 hi)
 
+-- and of both of an accepted one
+module _ (spec : Spec) (ok : IsAccepted spec) (left : ℕ → ℕ) (known : Left spec.demand left) (b n : ℕ) (most : (s : ℕ) → left s ≤ b) where
   some_gap : 0 < spec.smax
   some_gap = let f = facts spec ok in omega (arith, f.gap_low, f.gaps)
 
@@ -144,7 +146,14 @@ module _ (spec : Spec) (ok : IsAccepted spec) (left : ℕ → ℕ) (known : Left
       omega (arith, of-second, of_first, known.rises spec.smax hi some_gap longer, most hi)
 
   tries_within : TriesWithin b spec n
-  tries_within = (of_one, of_both spec.second refl)
+  tries_within = (of_one spec.demand left known b most n, of_both spec.second refl)
+
+-- of one range at most 284, where P is no more than 20,160
+pub few_of_one : (d : Option Rate) → ((x : Rate) → d ≡ Some x → x.minutes ≤ 20160) → (n lo hi : ℕ) → 0 < lo → tries d lo n hi ≤ 284
+few_of_one None most n = of_one None (λ s. 1) left_absent 284 (λ s. omega arith) n
+few_of_one (Some x) most n =
+    let few : x.minutes < 142 * 142 = omega (arith, most x refl) in
+    of_one (Some x) (lack x.minutes 142) (left_present x 142 few) 284 (λ s. omega (arith, min-le_right s 142)) n
 
 pub few_tries : FewTries
 few_tries spec ok n = by spec.demand refl

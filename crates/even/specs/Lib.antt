@@ -1,3 +1,4 @@
 pub mod Even
+pub mod Jump
 pub mod Search
 pub mod Statements

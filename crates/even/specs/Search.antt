@@ -1,33 +1,22 @@
 -- How the largest gap is looked for: through the second range, then through the first. No part of what the even plan is: `even_gap` of
--- Even.antt says that, and proofs/Jumps.antt, proofs/Search.antt and proofs/BothRanges.antt show that this search ends at it.
-use Rattle.std.specs.Prelude.{ℕ, zero, suc, ◌+◌, ◌/◌, ◌≤◌, ◌<◌, true, false, ◌&&◌, leb, Option, None, Some}
-use Rattle.std.specs.declared.num.NonZeroU16.{NonZeroU16}
-use Rattle.std.specs.Int.NonZero.{non_zero_u16_get}
+-- Even.antt says that, and proofs/Jumps.antt, proofs/Search.antt and proofs/BothRanges.antt show that this search ends at it. What a gap is
+-- looked for by is a test of gaps: that of the even plan is `fits`, and the box plan has another.
+use Rattle.std.specs.Prelude.{ℕ, zero, suc, ◌+◌, ◌≤◌, ◌<◌, Bool, true, false, ◌&&◌, leb, Option, None, Some}
 use Rattle.spec.specs.declared.Rate.{Rate}
 use Rattle.spec.specs.declared.Range.{Range}
 use Rattle.spec.specs.declared.Spec.{Spec}
 use Rattle.spec.specs.Limits.{range_of, between, IsAccepted}
-use Rattle.even.specs.Even.{fits, largest}
+use Rattle.even.specs.Even.{largest}
+use Rattle.even.specs.Jump.{next_gap}
 
--- the gap that the code gives, or 0 where it gives none, as the definitions say
-abbrev pub gap_number : Option NonZeroU16 → ℕ
-gap_number None = 0
-gap_number (Some s) = non_zero_u16_get s
-
--- the largest gap of one range, lo to hi, that fits; 0 where none does
-unfoldable pub even_gap_in : Spec → ℕ → ℕ → ℕ
-even_gap_in spec lo hi = largest (λ s. between lo hi s && fits spec s) hi
+-- the largest gap of one range, lo to hi, that passes; 0 where none does
+unfoldable pub largest_in : (ℕ → Bool) → ℕ → ℕ → ℕ
+largest_in ok lo hi = largest (λ s. between lo hi s && ok s) hi
 
 -- of a range that may be absent
-unfoldable pub even_gap_of : Spec → Option Range → ℕ
-even_gap_of spec None = 0
-even_gap_of spec (Some x) = even_gap_in spec x.min x.max
-
--- The gap to try after s has failed: the largest with more than ⌊P/s⌋ reports in P minutes. The gaps between have as many
--- reports as s in P minutes and no fewer in R, so they fail too. With demand absent that is true of every shorter gap.
-unfoldable pub next_gap : Option Rate → ℕ → ℕ
-next_gap None s = 0
-next_gap (Some x) s = x.minutes / (x.minutes / s + 1)
+unfoldable pub largest_of : (ℕ → Bool) → Option Range → ℕ
+largest_of ok None = 0
+largest_of ok (Some x) = largest_in ok x.min x.max
 
 -- how many gaps of lo and above are tried from s down where every one fails, counted up to n
 unfoldable pub tries : Option Rate → ℕ → ℕ → ℕ → ℕ

@@ -8,7 +8,8 @@ ghost use Rattle.std.specs.Prelude.{◌≡◌};
 ghost use Rattle.std.specs.Int.NonZero.{non_zero_u16_get};
 ghost use Rattle.spec.specs.Refusals.{numbered};
 ghost use Rattle.even.specs.Even.{count_at, total_of, demand_fits, supply_fits, fits, even_gap, even_plan_at, even_plan, even_of};
-ghost use Rattle.even.specs.Search.{gap_number, even_gap_in, even_gap_of, next_gap};
+ghost use Rattle.even.specs.Jump.{gap_number, next_gap};
+ghost use Rattle.even.specs.Search.{largest_in, largest_of};
 
 use plan::{Kind, Plan};
 use spec::refusal::Refusal;
@@ -17,7 +18,7 @@ use std::num::NonZeroU16;
 
 // The fewest reports in any P minutes; 1 where demand is absent.
 #[tactic(auto, unfolding(crate::specs::Even::count_at))]
-fn count_at(demand: Option<Rate>, s: NonZeroU16) -> u16
+pub fn count_at(demand: Option<Rate>, s: NonZeroU16) -> u16
     ensures { result ≡ count_at demand (non_zero_u16_get s) }
 {
     demand.map_or(1, |rate| rate.minutes / s)
@@ -69,8 +70,9 @@ fn period_at(spec: Spec, s: NonZeroU16) -> Period
     }
 }
 
+// Whether some endless list of sizes obeys the rules at the gap s, where s is allowed.
 #[tactic(auto, unfolding(crate::specs::Even::fits))]
-fn fits_at(spec: Spec, s: NonZeroU16) -> bool
+pub fn fits_at(spec: Spec, s: NonZeroU16) -> bool
     ensures { result ≡ fits spec (non_zero_u16_get s) }
 {
     let Period { count, total } = period_at(spec, s);
@@ -78,8 +80,8 @@ fn fits_at(spec: Spec, s: NonZeroU16) -> bool
 }
 
 // The gap to try after s has failed.
-#[tactic(auto, unfolding(crate::specs::Search::next_gap))]
-fn next_gap(demand: Option<Rate>, s: NonZeroU16) -> Option<NonZeroU16>
+#[tactic(auto, unfolding(crate::specs::Jump::next_gap))]
+pub fn next_gap(demand: Option<Rate>, s: NonZeroU16) -> Option<NonZeroU16>
     ensures { gap_number result ≡ next_gap demand (non_zero_u16_get s) }
 {
     demand.and_then(|rate| {
@@ -93,7 +95,7 @@ fn next_gap(demand: Option<Rate>, s: NonZeroU16) -> Option<NonZeroU16>
 // specs/Search.antt).
 #[tactic(auto, using(crate::proofs::Search::searching))]
 fn gap_within(spec: Spec, lo: u16, hi: u16) -> Option<NonZeroU16>
-    ensures { gap_number result ≡ even_gap_in spec lo hi }
+    ensures { gap_number result ≡ largest_in (fits spec) lo hi }
 {
     // Each gap that fails says where the next one is, so that no range has them beforehand.
     let mut next = NonZeroU16::new(hi);
@@ -110,9 +112,9 @@ fn gap_within(spec: Spec, lo: u16, hi: u16) -> Option<NonZeroU16>
 }
 
 // The same of a range that may be absent.
-#[tactic(auto, unfolding(crate::specs::Search::even_gap_of))]
+#[tactic(auto, unfolding(crate::specs::Search::largest_of))]
 fn gap_of(spec: Spec, range: Option<Range>) -> Option<NonZeroU16>
-    ensures { gap_number result ≡ even_gap_of spec range }
+    ensures { gap_number result ≡ largest_of (fits spec) range }
 {
     range.and_then(|range| gap_within(spec, range.min, range.max))
 }

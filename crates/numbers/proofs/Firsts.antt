@@ -38,3 +38,34 @@ first_passes f (suc n) i h = pick (f i) refl h (first_passes f n (i + 1))
         → f (elim t [ true ↦ i | false ↦ first f n (i + 1) ]) ≡ true
     pick true e h ih = e
     pick false e h ih = ih (omega (arith, h))
+
+-- what is found is not below the first that is looked at, nor past the last by more than one
+pub first_from : (f : ℕ → Bool) (n i : ℕ) → i ≤ first f n i
+unfolding first
+first_from f zero i = omega arith
+first_from f (suc n) i = pick (f i) (first_from f n (i + 1))
+  where
+    pick : (t : Bool) → i + 1 ≤ first f n (i + 1) → i ≤ elim t [ true ↦ i | false ↦ first f n (i + 1) ]
+    pick true ih = omega arith
+    pick false ih = omega arith
+
+pub first_most : (f : ℕ → Bool) (n i : ℕ) → first f n i ≤ i + n
+unfolding first
+first_most f zero i = omega arith
+first_most f (suc n) i = pick (f i) (first_most f n (i + 1))
+  where
+    pick : (t : Bool) → first f n (i + 1) ≤ i + 1 + n → elim t [ true ↦ i | false ↦ first f n (i + 1) ] ≤ i + suc n
+    pick true ih = omega arith
+    pick false ih = omega (arith, ih)
+
+-- Looking from i on, where none below k passed: k is found if it passes, and else what is found is above k.
+module _ (f : ℕ → Bool) (n i k : ℕ) (low : i ≤ k) (high : k < i + n) (none : k ≤ first f n i) where
+  pub first_found : f k ≡ true → first f n i ≡ k
+  first_found e = omega (arith, none, (first_right f n i k low high e).least k low e)
+
+  pub first_above : f k ≡ false → k + 1 ≤ first f n i
+  first_above e =
+      elim (ℕ_discrete (first f n i) k) [
+        | yes z ↦ absurd (not_both (f k) (rw z at (first_passes f n i (omega arith))) e)
+        | no z ↦ omega arith
+      ]

@@ -1,7 +1,12 @@
--- A gap of the second range is longer than any of the first.
+-- The second range is looked through first.
 use Rattle.std.proofs.Common.{rules}
+use Rattle.spec.proofs.Facts.{ranges_rise}
+use Rattle.even.specs.Even.{fits, even_gap}
 use Rattle.even.proofs.BothRanges.{either_range}
 use Rattle.even.proofs.even_gap.Goals as goal
 
 pub returns : goal.returns
-returns c = either_range _ c.args.accepted.accepted c.gap_of.result c.or_else.result c.gap_of.ensures (search rules)
+unfolding even_gap
+returns c =
+    let spec = c.args.accepted.spec in
+    either_range spec (fits spec) (ranges_rise spec c.args.accepted.accepted) c.gap_of.result c.or_else.result c.gap_of.ensures (search rules)
