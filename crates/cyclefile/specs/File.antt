@@ -139,9 +139,9 @@ stored_pairs places file = after_read (read_count places file) (λ (m : ℕ). []
 
 -- ---- What calls answer, and what they leave in lent places
 
--- the answer of a reader that stores the pairs: how many they are, or the refusal
-abbrev pub file_answer : Result (List Pair) ℕ → Result ℕ ℕ
-file_answer (Ok ps) = Ok (length ps)
+-- the answer of a reader that stores the pairs, or of a writer that stores the bytes: how many they are, or the refusal
+abbrev pub file_answer : {A : Type 0} → Result (List A) ℕ → Result ℕ ℕ
+file_answer (Ok stored) = Ok (length stored)
 file_answer (Err n) = Err n
 
 -- reading into lent places and a lent count, which hold places' and count' afterwards: "A refusal yields its number .. and writes to no

@@ -74,6 +74,10 @@ module _ (p : Plan) (ok : proper p ≡ true) where
   run_later i =
       rw (run_gap i) (gap_range k known.some π 1 π (omega (arith, known.long)) (rw mul_comm (le-mul_of_pos_right π known.some)) i).0
 
+  pub run_gap_most : (i : ℕ) → (run p).gap i ≤ 20160
+  run_gap_most i =
+      rw (run_gap i) (gap_range k known.some π 0 20160 (rw mul-zero (omega arith)) (omega (arith, known.short, mul_comm k 20160)) i).1
+
   pub run_gap_again : (i : ℕ) → (run p).gap (i + k) ≡ (run p).gap i
   run_gap_again i = rw (run_gap (i + k), run_gap i) (gap_again k known.some π i)
 

@@ -188,13 +188,28 @@ impl ProperPlan {
     }
 
     // The size of report i. That of the even kind is what one report more holds.
-    fn size(self, i: u64) -> u64
-        requires { i < 2 ^ 32 }
+    pub fn size(self, i: u32) -> u32
         ensures { (result ≡ (run self.plan).size i) × (result ≤ 1000) }
     {
+        let i = u64::from(i);
+        // Either fits, as is proved: `try_from` would bring an error that never comes.
         match self.plan.kind {
-            Kind::WellFormed => self.well_size(i),
-            Kind::Even => self.even_first(i + 1) - self.even_first(i),
+            Kind::WellFormed => self.well_size(i) as u32,
+            Kind::Even => (self.even_first(i + 1) - self.even_first(i)) as u32,
+        }
+    }
+
+    // The gap from report i to the next: the last of a period are longer. The even kind has no longer gap.
+    #[tactic(auto, using(crate::proofs::Proper::count_range))]
+    pub fn gap(self, i: u32) -> u32
+        ensures { (result ≡ (run self.plan).gap i) × (result ≤ 20160) }
+    {
+        let k = self.plan.count;
+        let period = self.plan.period;
+        if k - period % k <= i % k {
+            period / k + 1
+        } else {
+            period / k
         }
     }
 
@@ -204,8 +219,7 @@ impl ProperPlan {
     {
         Report {
             minute: self.minute(u64::from(i)),
-            // It fits, as is proved: `try_from` would bring an error that never comes.
-            size: self.size(u64::from(i)) as u32,
+            size: self.size(i),
         }
     }
 
