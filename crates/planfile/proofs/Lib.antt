@@ -1,0 +1,4 @@
+pub mod Written
+pub mod Laid
+pub mod FileAnswers
+pub mod FileNumbers
