@@ -1,0 +1,3 @@
+pub mod BoxPlan
+pub mod OneGapCycles
+pub mod Search
