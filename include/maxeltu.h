@@ -37,12 +37,12 @@
  *    (what a meter has accepted stands in the caller's struct): calls from
  *    several threads at once are fine as long as they share no place that one of
  *    them writes. So one meter belongs to one thread at a time.
- *  - A call that checks, bills, reads or writes a cycle holds it once, unpacked,
- *    on the stack: 2,048 bytes, and with all else that it needs at most some
- *    2,400 (measured on x86-64; tests/c/stack.c tells it of another build). A check
- *    looks at each pair a fixed number of times at most, whatever R, P and the
- *    lateness are. A normal form is found, and a dated file judged, with no copy of
- *    the cycle.
+ *  - A call that checks, bills, reads or writes a cycle, or writes a plan out as
+ *    one, holds it once, unpacked, on the stack: 2,048 bytes, and with all else that
+ *    it needs at most some 2,400 (measured on x86-64; tests/c/stack.c tells it of
+ *    another build). A check looks at each pair a fixed number of times at most,
+ *    whatever R, P and the lateness are. A normal form is found, and a dated file
+ *    judged, with no copy of the cycle.
  *
  * Specification file: one byte of bit map (bit 0, the lowest, size; 1 gap;
  * 2 supply; 3 demand; 4 duration; 5 second range of gaps). Then, in that order,
@@ -93,7 +93,8 @@ enum maxeltu_refusal {
     MAXELTU_NO_EVEN_PLAN = 10,    /* at no gap of either range does any endless list of sizes obey the rules */
     MAXELTU_PLAN_IMPROPER = 11,   /* the plan is not proper */
 
-    /* Checking a cycle; 13 to 15 also of an offer to a meter. */
+    /* Checking a cycle; 13 to 15 also of an offer to a meter, 12 also of a plan
+       written out, 26 also of the box plan. */
     MAXELTU_COUNT = 12,           /* the count of pairs is 0 or above MAXELTU_MAX_PAIRS */
     MAXELTU_GAP = 13,             /* some gap is in no range of the specification; the offer comes too early */
     MAXELTU_SIZE = 14,            /* some size, or the offer's, is out of the specification's range */
@@ -119,7 +120,10 @@ enum maxeltu_refusal {
     MAXELTU_CLOSED = 28,          /* the calendar minute is closed: no duty minute */
 
     /* Which of two dated cycle files is in force; beside those of a cycle's file. */
-    MAXELTU_SAME_DAY = 29         /* both files can be read and have the same issue day, but they differ */
+    MAXELTU_SAME_DAY = 29,        /* both files can be read and have the same issue day, but they differ */
+
+    /* The box plan. */
+    MAXELTU_NO_BOX_PLAN = 30      /* every cycle of 1 to MAXELTU_MAX_PAIRS pairs with one gap throughout is refused */
 };
 
 /* Limits. Each value of a specification is at least 1 and at most: */
@@ -141,7 +145,7 @@ enum maxeltu_limit {
 /* The kinds of a plan, for the calls that take one. */
 enum maxeltu_kind {
     MAXELTU_WELL_FORMED = 0,      /* what maxeltu_min_demand, _max_supply and _test hand back */
-    MAXELTU_EVEN = 1              /* what maxeltu_even_plan hands back */
+    MAXELTU_EVEN = 1              /* what maxeltu_even_plan and maxeltu_box_plan hand back */
 };
 
 /*
@@ -275,6 +279,39 @@ uint32_t maxeltu_test(const uint8_t *spec, size_t spec_len,
  */
 uint32_t maxeltu_even_plan(const uint8_t *spec, size_t spec_len,
                            uint32_t *k, uint32_t *period, uint32_t *total);
+
+/*
+ * The box plan: a plan with one gap throughout that a box can load, as a cycle of
+ * at most MAXELTU_MAX_PAIRS pairs. (With a demand rate an even plan has as many
+ * reports in a period as P minutes have at least, up to 20,160.) Each report may
+ * arrive up to `lateness` minutes late, as for maxeltu_check_late; 0 is on time.
+ *
+ * Answers 0; 1 to 4 or 24; 26 where the lateness is above MAXELTU_MAX_LATENESS; 30
+ * where maxeltu_check_late refuses every cycle of 1 to 512 pairs that has one gap
+ * throughout. Where maxeltu_even_plan gives 10 this gives 30 for every such lateness.
+ * Writes *k (at most 512), *period and *total, a plan of the even kind. Its gap is
+ * *period / *k minutes.
+ *
+ * Written out by maxeltu_write_plan it is a cycle of *k pairs that gets 0 from
+ * maxeltu_check_late with this lateness, and from maxeltu_verdict. Of all cycles with
+ * one gap throughout that get 0 for this lateness none has a longer gap, none with
+ * this gap has fewer pairs, and none with this gap and as many pairs has fewer
+ * records in a round. At most 284 gaps of each range are tried, each by a few
+ * operations; only where some endless list of sizes obeys are counts of pairs tried
+ * too, up to 512.
+ *
+ * From a specification to a checked cycle file:
+ *
+ *     uint8_t file[MAXELTU_MAX_CYCLE_FILE];
+ *     uint32_t k, period, total, length;
+ *     if (maxeltu_box_plan(spec, spec_length, 0, &k, &period, &total) == 0 &&
+ *         maxeltu_write_plan(MAXELTU_EVEN, k, period, total, file, sizeof file, &length) == 0 &&
+ *         maxeltu_verdict(spec, spec_length, file, length) == 0)
+ *         load(file, length);
+ */
+uint32_t maxeltu_box_plan(const uint8_t *spec, size_t spec_len,
+                          uint32_t lateness, uint32_t *k, uint32_t *period,
+                          uint32_t *total);
 
 /*
  * Minute and size of report i of a plan's endless run (reports count from 0;
@@ -472,6 +509,23 @@ uint32_t maxeltu_read_cycle(const uint8_t *file, size_t file_len,
  */
 uint32_t maxeltu_write_cycle(const struct maxeltu_pair *pairs, size_t count,
                              uint8_t *file, size_t room, uint32_t *written);
+
+/*
+ * Writes a plan out as a cycle, into the file's `room` lent bytes: its k reports as
+ * pairs, each with its size and the gap to the next. A plan is handed in as for
+ * maxeltu_report, of either kind. Report by report the endless repetition of that
+ * cycle is the plan, so that maxeltu_verdict gives 0 exactly where the plan obeys:
+ * so it is with the box plan, and with every even plan and every plan that the test
+ * passed which has at most 512 reports in a period.
+ *
+ * Answers 0; 11 where the plan is not proper; 12 where k is above 512; 20 where room
+ * is less than the file's length (MAXELTU_MAX_CYCLE_FILE bytes are always enough).
+ * Writes the file to the first *written bytes, and *written. Bytes past the file keep
+ * their contents; so do all bytes where the answer is not 0.
+ */
+uint32_t maxeltu_write_plan(uint32_t kind, uint32_t k, uint32_t period,
+                            uint32_t total, uint8_t *file, size_t room,
+                            uint32_t *written);
 
 /*
  * Which of two dated cycle files is in force. A file that cannot be read, as

@@ -53,10 +53,10 @@ abbrev pub tested_answer : Result Scheduled Failing → Answer
 tested_answer (Ok x) = yields (plan_numbers x.plan (x.supply ∷ []))
 tested_answer (Err f) = failing f
 
--- the even plan: its numbers, or 3, 4, 24, 10
-abbrev pub even_answer : Result Plan ℕ → Answer
-even_answer (Ok p) = yields (plan_numbers p [])
-even_answer (Err n) = refusal n
+-- the even plan: its numbers, or 3, 4, 24, 10; and the box plan: its numbers, or 3, 4, 24, 26, 30
+abbrev pub plan_answer : Result Plan ℕ → Answer
+plan_answer (Ok p) = yields (plan_numbers p [])
+plan_answer (Err n) = refusal n
 
 -- a report: minute, size; or 11
 abbrev pub report_answer : Result Report ℕ → Answer
@@ -92,7 +92,8 @@ in_force_answer (Ok w) = yields (which_file w ∷ [])
 in_force_answer (Err n) = refusal n
 
 -- One number: that of the last or the nearest report, or 11 (document 02, Req 05); the calendar minute of a duty minute, or 27, and the duty
--- minute of an open calendar minute, or 27, 28 (document 02, Req 11); how many pairs a normal form has, or 12, 20 (document 02, Req 12).
+-- minute of an open calendar minute, or 27, 28 (document 02, Req 11); how many pairs a normal form has, or 12, 20 (document 02, Req 12); how many
+-- bytes a plan written out has, or 11, 12, 20.
 abbrev pub value_answer : Result ℕ ℕ → Answer
 value_answer (Ok x) = yields (x ∷ [])
 value_answer (Err n) = refusal n

@@ -8,7 +8,7 @@ ghost use Rattle.std.specs.Prelude.{◌≡◌};
 ghost use Rattle.std.specs.Result.{result_unwrap_or};
 ghost use Rattle.spec.specs.Refusals.{numbered, answer_number};
 ghost use Rattle.consistency.specs.Consistency.{told};
-ghost use Rattle.answers.specs.Answers.{condition_number, consistency_answer, scheduled_answer, tested_answer, even_answer, report_answer, contents_answer, bill_answer, judged_answer, in_force_answer, held_after, held_or_value};
+ghost use Rattle.answers.specs.Answers.{condition_number, consistency_answer, scheduled_answer, tested_answer, plan_answer, report_answer, contents_answer, bill_answer, judged_answer, in_force_answer, held_after, held_or_value};
 
 use consistency::{Condition, Unfit};
 use cost::Bill;
@@ -101,16 +101,16 @@ pub fn test_answer(
 }
 
 #[tactic(auto, unfolding(crate::specs::Answers::held_after), using(crate::proofs::Places::after_refusal))]
-pub fn even_answer(
+pub fn plan_answer(
     found: Result<Plan, Refusal>,
     k: &mut u32,
     period: &mut u32,
     total: &mut u32,
 ) -> u32
-    ensures number { result ≡ (even_answer (numbered found)).number }
-    ensures k { k.new ≡ held_after 0 1 (even_answer (numbered found)) k.old }
-    ensures period { period.new ≡ held_after 0 2 (even_answer (numbered found)) period.old }
-    ensures total { total.new ≡ held_after 0 3 (even_answer (numbered found)) total.old }
+    ensures number { result ≡ (plan_answer (numbered found)).number }
+    ensures k { k.new ≡ held_after 0 1 (plan_answer (numbered found)) k.old }
+    ensures period { period.new ≡ held_after 0 2 (plan_answer (numbered found)) period.old }
+    ensures total { total.new ≡ held_after 0 3 (plan_answer (numbered found)) total.old }
 {
     match found {
         Ok(plan) => {

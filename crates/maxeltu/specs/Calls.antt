@@ -12,6 +12,8 @@ use Rattle.families.specs.declared.Family.{Family}
 use Rattle.families.specs.Families.{schedule_for}
 use Rattle.feasibility.specs.Test.{test_of}
 use Rattle.even.specs.Even.{even_plan}
+use Rattle.boxplan.specs.BoxPlan.{box_plan}
+use Rattle.planfile.specs.PlanFile.{plan_file}
 use Rattle.pairs.specs.declared.Pair.{Pair}
 use Rattle.cycle.specs.Check.{check_number}
 use Rattle.cycle.specs.Shortest.{shortest_stretch}
@@ -19,7 +21,7 @@ use Rattle.cost.specs.Bills.{plan_bill, cycle_bill}
 use Rattle.normal.specs.Answers.{normalised}
 use Rattle.dated.specs.InForce.{in_force}
 use Rattle.duty.specs.Minutes.{calendar_of, duty_of, table_of}
-use Rattle.answers.specs.Answers.{Answer, refusal, consistency_answer, scheduled_answer, tested_answer, even_answer, report_answer, contents_answer, bill_answer, judged_answer, in_force_answer, value_answer}
+use Rattle.answers.specs.Answers.{Answer, refusal, consistency_answer, scheduled_answer, tested_answer, plan_answer, report_answer, contents_answer, bill_answer, judged_answer, in_force_answer, value_answer}
 
 unfoldable pub consistency_call : List ℕ → Answer
 consistency_call bytes = if_read (read_spec bytes) (λ s. consistency_answer (consistency_of s)) refusal
@@ -31,7 +33,10 @@ unfoldable pub test_call : List ℕ → Answer
 test_call bytes = if_read (read_spec bytes) (λ s. tested_answer (test_of s)) refusal
 
 unfoldable pub even_call : List ℕ → Answer
-even_call bytes = if_read (read_spec bytes) (λ s. even_answer (even_plan s)) refusal
+even_call bytes = if_read (read_spec bytes) (λ s. plan_answer (even_plan s)) refusal
+
+unfoldable pub box_call : List ℕ → (lateness : ℕ) → Answer
+box_call bytes lateness = if_read (read_spec bytes) (λ s. plan_answer (box_plan s lateness)) refusal
 
 -- the plan of these numbers, the first of which names a kind
 abbrev pub plan_with : Result Kind ℕ → (k π δ : ℕ) → Result Plan ℕ
@@ -60,6 +65,14 @@ between_call kind k π δ a b = if_named (plan_named kind k π δ) (λ p. conten
 
 unfoldable pub plan_cost_call : (kind k π δ reports : ℕ) → Answer
 plan_cost_call kind k π δ reports = if_named (plan_named kind k π δ) (λ p. bill_answer (plan_bill p reports))
+
+-- the file of a plan written out as a cycle, where so many bytes are lent, or the number
+abbrev pub file_named : Result Plan ℕ → (room : ℕ) → Result (List ℕ) ℕ
+file_named (Ok p) room = plan_file room p
+file_named (Err n) room = Err n
+
+unfoldable pub plan_file_call : (kind k π δ room : ℕ) → Result (List ℕ) ℕ
+plan_file_call kind k π δ room = file_named (plan_named kind k π δ) room
 
 unfoldable pub cycle_cost_call : List ℕ → List Pair → (reports : ℕ) → Answer
 cycle_cost_call bytes ps reports = if_read (read_spec bytes) (λ s. bill_answer (cycle_bill s ps reports)) refusal

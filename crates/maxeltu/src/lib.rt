@@ -11,15 +11,16 @@ ghost use Rattle.spec.specs.Refusals.{numbered};
 ghost use Rattle.spec.specs.File.{if_read, read_spec};
 ghost use Rattle.cycle.specs.Check.{check_file_number};
 ghost use Rattle.cycle.specs.LateCheck.{late_file_number};
-ghost use Rattle.cyclefile.specs.File.{read_cycle, Reads, Writes};
+ghost use Rattle.cyclefile.specs.File.{file_answer, read_cycle, Reads, Writes};
+ghost use Rattle.planfile.specs.PlanFile.{file_after};
 ghost use Rattle.families.specs.declared.Family.TheVariants.{MinimumDemand, MaximumSupply};
 ghost use Rattle.normal.specs.Answers.{places_after};
 ghost use Rattle.meter.specs.Ring.{fresh, stepped, told_or};
 ghost use Rattle.duty.specs.Weeks.{table_number};
 ghost use Rattle.duty.specs.Minutes.{table_of};
-ghost use Rattle.answers.specs.Answers.{held_after, held_or_value};
+ghost use Rattle.answers.specs.Answers.{value_answer, held_after, held_or_value};
 ghost use Rattle.maxeltu.specs.Verdict.{verdict_of};
-ghost use Rattle.maxeltu.specs.Calls.{consistency_call, schedule_call, test_call, even_call, plan_named, report_call, last_call, nearest_call, between_call, stretch_call, plan_cost_call, cycle_cost_call, normal_call, in_force_call, calendar_call, duty_call};
+ghost use Rattle.maxeltu.specs.Calls.{consistency_call, schedule_call, test_call, even_call, box_call, plan_named, report_call, last_call, nearest_call, between_call, stretch_call, plan_cost_call, plan_file_call, cycle_cost_call, normal_call, in_force_call, calendar_call, duty_call};
 
 use cyclefile::reading;
 use families::Family;
@@ -161,7 +162,28 @@ pub fn maxeltu_even_plan(spec_bytes: &[u8], k: &mut u32, period: &mut u32, total
     let Ok(s) = read else {
         return answer_number(read);
     };
-    answers::even_answer(even::even_plan(s), k, period, total)
+    answers::plan_answer(even::even_plan(s), k, period, total)
+}
+
+// The box plan of a specification's file, for reports that may arrive up to `lateness` minutes late.
+#[tactic(auto, unfolding(crate::specs::Calls::box_call), using(answers::proofs::Places::after_refusal))]
+pub fn maxeltu_box_plan(
+    spec_bytes: &[u8],
+    lateness: u32,
+    k: &mut u32,
+    period: &mut u32,
+    total: &mut u32,
+) -> u32
+    ensures { (result ≡ (box_call spec_bytes.now lateness).number)
+        × (k.new ≡ held_after 0 1 (box_call spec_bytes.now lateness) k.old)
+        × (period.new ≡ held_after 0 2 (box_call spec_bytes.now lateness) period.old)
+        × (total.new ≡ held_after 0 3 (box_call spec_bytes.now lateness) total.old) }
+{
+    let read = spec::read_spec(spec_bytes);
+    let Ok(s) = read else {
+        return answer_number(read);
+    };
+    answers::plan_answer(boxplan::box_plan(s, lateness), k, period, total)
 }
 
 // The plan that four numbers name: kind 0 is well-formed, 1 even; of no other kind is there a proper plan.
@@ -390,6 +412,27 @@ pub fn maxeltu_write_cycle(pairs: &[Pair], file: &mut [u8], written: &mut u32) -
         }
         Err(refusal) => refusal.number(),
     }
+}
+
+// Writes a plan out as a cycle file.
+#[tactic(auto, unfolding(crate::specs::Calls::plan_file_call), using(answers::proofs::Places::after_refusal, answers::proofs::Places::value_number, answers::proofs::Places::value_place))]
+pub fn maxeltu_write_plan(
+    kind: u32,
+    k: u32,
+    period: u32,
+    total: u32,
+    file: &mut [u8],
+    written: &mut u32,
+) -> u32
+    ensures { (result ≡ (value_answer (file_answer (plan_file_call kind k period total (length file.old)))).number)
+        × (file.new ≡ file_after (plan_file_call kind k period total (length file.old)) file.old)
+        × (written.new ≡ held_after 0 0 (value_answer (file_answer (plan_file_call kind k period total (length file.old)))) written.old) }
+{
+    let named = plan_named(kind, k, period, total);
+    let Ok(p) = named else {
+        return answer_number(named);
+    };
+    answers::value_answer(planfile::write(p, file), written)
 }
 
 // Which of two dated cycle files is in force: 1 the first, 2 the second.

@@ -7,15 +7,16 @@ ghost use Rattle.spec.specs.File.{if_read, read_spec};
 ghost use Rattle.cycle.specs.Check.{check_file_number};
 ghost use Rattle.cycle.specs.LateCheck.{late_file_number};
 ghost use Rattle.pairs.specs.Pairs.{flatten, pairs_of, laid_over};
-ghost use Rattle.cyclefile.specs.File.{read_cycle, stored_pairs, Reads, Writes};
+ghost use Rattle.cyclefile.specs.File.{file_answer, read_cycle, stored_pairs, Reads, Writes};
+ghost use Rattle.planfile.specs.PlanFile.{file_after};
 ghost use Rattle.families.specs.declared.Family.TheVariants.{MinimumDemand, MaximumSupply};
 ghost use Rattle.normal.specs.Answers.{places_after};
 ghost use Rattle.meter.specs.Ring.{fresh, stepped, told_or};
 ghost use Rattle.duty.specs.Weeks.{table_number};
 ghost use Rattle.duty.specs.Minutes.{table_of};
-ghost use Rattle.answers.specs.Answers.{held_after, held_or_value};
+ghost use Rattle.answers.specs.Answers.{value_answer, held_after, held_or_value};
 ghost use Rattle.maxeltu.specs.Verdict.{verdict_of};
-ghost use Rattle.maxeltu.specs.Calls.{consistency_call, schedule_call, test_call, even_call, plan_named, report_call, last_call, nearest_call, between_call, stretch_call, plan_cost_call, cycle_cost_call, normal_call, in_force_call, calendar_call, duty_call};
+ghost use Rattle.maxeltu.specs.Calls.{consistency_call, schedule_call, test_call, even_call, box_call, plan_named, report_call, last_call, nearest_call, between_call, stretch_call, plan_cost_call, plan_file_call, cycle_cost_call, normal_call, in_force_call, calendar_call, duty_call};
 
 use meter::Meter;
 use pairs::Pair;
@@ -105,6 +106,23 @@ pub extern "C" fn maxeltu_even_plan(
         × (total.new ≡ held_after 0 3 (even_call spec_bytes.now) total.old) }
 {
     maxeltu::maxeltu_even_plan(spec_bytes, k, period, total)
+}
+
+// The box plan of a specification's file, for reports that may arrive up to `lateness` minutes late.
+#[unsafe(no_mangle)]
+pub extern "C" fn maxeltu_box_plan(
+    spec_bytes: &[u8],
+    lateness: u32,
+    k: &mut u32,
+    period: &mut u32,
+    total: &mut u32,
+) -> u32
+    ensures { (result ≡ (box_call spec_bytes.now lateness).number)
+        × (k.new ≡ held_after 0 1 (box_call spec_bytes.now lateness) k.old)
+        × (period.new ≡ held_after 0 2 (box_call spec_bytes.now lateness) period.old)
+        × (total.new ≡ held_after 0 3 (box_call spec_bytes.now lateness) total.old) }
+{
+    maxeltu::maxeltu_box_plan(spec_bytes, lateness, k, period, total)
 }
 
 // Minute and size of report i of a plan.
@@ -270,6 +288,23 @@ pub extern "C" fn maxeltu_write_cycle(pairs: &[Pair], file: &mut [u8], written: 
     ensures { Writes pairs.now file.old written.old result file.new written.new }
 {
     maxeltu::maxeltu_write_cycle(pairs, file, written)
+}
+
+// Writes a plan out as a cycle file.
+#[unsafe(no_mangle)]
+pub extern "C" fn maxeltu_write_plan(
+    kind: u32,
+    k: u32,
+    period: u32,
+    total: u32,
+    file: &mut [u8],
+    written: &mut u32,
+) -> u32
+    ensures { (result ≡ (value_answer (file_answer (plan_file_call kind k period total (length file.old)))).number)
+        × (file.new ≡ file_after (plan_file_call kind k period total (length file.old)) file.old)
+        × (written.new ≡ held_after 0 0 (value_answer (file_answer (plan_file_call kind k period total (length file.old)))) written.old) }
+{
+    maxeltu::maxeltu_write_plan(kind, k, period, total, file, written)
 }
 
 // Which of two dated cycle files is in force: 1 the first, 2 the second.
