@@ -2,10 +2,10 @@
 -- 0 only where both are read and the check's number is 0.
 use Prim.Native.Nat.{ℕ, ◌*◌, ◌≤◌, ◌<◌}
 use native.Mathlib.Omega.{arith}
-use mathlib.Core.Path.{◌≡◌, refl}
-use mathlib.Core.Logic.{◌⊎◌, inl, inr, ⊎_elim}
+use mathlib.Core.Path.{◌≡◌, refl, sym, ap, ◌∙◌}
+use mathlib.Core.Logic.{◌⊎◌, inl, inr, ◌↔◌, ⊎_elim}
 use mathlib.Core.Bool.{true}
-use mathlib.Core.List.{List}
+use mathlib.Core.List.{List, []}
 use lib.ListN.{length}
 use borrow.Author.Tests.{ne_eqb}
 use Rattle.spec.specs.declared.Spec.{Spec}
@@ -40,8 +40,15 @@ use Rattle.feasibility.proofs.Theorems.{test_passes, test_finds, test_accepted, 
 use Rattle.feasibility.proofs.Needed.{fourth_needed}
 use Rattle.even.proofs.EvenPlans.{even_plan_accepted, even_plan_obeys, even_plan_longest, even_plan_refused, even_plan_own, even_plan_least}
 use Rattle.even.proofs.ReportZero.{report_0_thinner}
+use Rattle.boxplan.specs.BoxPlan.{box_plan}
+use Rattle.boxplan.specs.OneGapCycles.{plan_gap}
+use Rattle.boxplan.proofs.BoxPlans.{box_plan_good, box_plan_obeys, box_plan_longest, box_plan_fewest, box_plan_refused, box_too_late, no_even_no_box}
+use Rattle.planfile.specs.PlanFile.{plan_pairs, plan_file, file_after}
+use Rattle.planfile.proofs.Written.{plan_written, plan_round, plan_verdict, plan_reads_back}
+use Rattle.planfile.proofs.FileNumbers.{plan_file_numbers}
 use Rattle.pairs.specs.declared.Pair.{Pair}
 use Rattle.cycle.specs.Cycles.{cycle_run}
+use Rattle.cycle.specs.Check.{check_number}
 use Rattle.cycle.proofs.CyclesPassed.{passed_obeys}
 use Rattle.cycle.proofs.Planned.{on_time_same}
 use Rattle.cycle.proofs.LatePassed.{late_passed, late_gap, late_size, late_full, late_thin, too_late, late_less}
@@ -87,6 +94,9 @@ list_kept (Err m) held held' count count' n h some = (h.1, h.2)
 
 bytes_kept : (c : List Pair) (held : List ℕ) → 0 < write_number (length held) c → bytes_after c held ≡ held
 bytes_kept c held h = rw (ne_eqb (write_number (length held) c) 0 (λ z. omega arith))
+
+file_kept : (r : Result (List ℕ) ℕ) (held : List ℕ) (n : ℕ) → r ≡ Err n → file_after r held ≡ held
+file_kept r held n e = rw e
 
 -- no number of a cycle's file is 0
 not_zero : (n : ℕ) → CycleRefusal n → ¬ (n ≡ 0)
@@ -135,6 +145,30 @@ loaded_same spec c some few =
     either (Ok s) a b = rw (a, b) (check_same c some few s)
     either (Err n) a b = refl
 
+-- So it does with a plan's cycle: that is passed exactly where its run obeys, which is the plan's.
+module _ (spec : List ℕ) (s : Spec) (p : Plan) (read : read_spec spec ≡ Ok s) (ok : proper p ≡ true) (few : p.count ≤ 512) where
+  read_back : read_cycle 512 (cycle_bytes (plan_pairs p)) ≡ Ok (plan_pairs p)
+  read_back = (plan_reads_back p ok few).0
+
+  plan_number : verdict_of spec (cycle_bytes (plan_pairs p)) ≡ check_number s (plan_pairs p)
+  unfolding verdict_of verdict_read
+  plan_number = rw (read, read_back)
+
+  plan_loads : (verdict_of spec (cycle_bytes (plan_pairs p)) ≡ 0) ↔ Obeys s (run p)
+  plan_loads =
+      let v = plan_verdict p ok few s (accepted spec [] s read (spec_is_read spec)) in
+      (λ e. v.0 (sym plan_number ∙ e), λ o. plan_number ∙ v.1 o)
+
+-- and with a box plan's, which is passed on time too
+box_loads : (spec : List ℕ) (s : Spec) (lateness : ℕ) (p : Plan) → read_spec spec ≡ Ok s → box_plan s lateness ≡ Ok p → verdict_of spec (cycle_bytes (plan_pairs p)) ≡ 0
+box_loads spec s lateness p read e =
+    let good = box_plan_good s lateness p e in
+    let few : p.count ≤ 512 = omega (arith, good.1.few, (plan_written p good.0).0) in
+    plan_number spec s p read good.0 few ∙ sym (on_time_same s (plan_pairs p)) ∙ late_less s 0 lateness (plan_pairs p) (omega arith) good.2
+
+report_by_report : (p : Plan) (i : ℕ) → proper p ≡ true → ((cycle_run (plan_pairs p)).size i ≡ (run p).size i) × (minute (cycle_run (plan_pairs p)) i ≡ minute (run p) i)
+report_by_report p i ok = let same = (plan_written p ok).1 in (ap (λ (t : Schedule). t.size i) same, ap (λ (t : Schedule). minute t i) same)
+
 -- A schedule on duty minutes: no gap of it is below smin, and on the calendar each is as long, or longer.
 kept_on_duty : (table : Table) (s : Spec) (t : Schedule) → IsTable table → IsAccepted s → Obeys s t → KeptOnDuty table s t
 kept_on_duty table s t valid accepted obeys =
@@ -159,6 +193,7 @@ demands = record {
   refused_list_kept = λ file held held' count count' n. list_kept (read_cycle (length held) file) held held' count count' n;
   refused_bytes_kept = bytes_kept;
   refused_places_kept = refused_kept;
+  refused_file_kept = λ p held n e. file_kept (plan_file (length held) p) held n e;
   refused_meter_kept = refused_meter_kept;
   gap_in_either = gap_in_either;
   ranges_apart = number_24;
@@ -260,6 +295,20 @@ demands = record {
   report_0_thinner = report_0_thinner;
   even_longest = even_plan_longest;
   breaks_not_obeys = breaks_not_obeys;
+  plan_written = plan_written;
+  plan_reports = report_by_report;
+  plan_round = plan_round;
+  plan_file_numbers = plan_file_numbers;
+  plan_reads_back = plan_reads_back;
+  plan_loads = plan_loads;
+  box_passed = box_plan_good;
+  box_obeys = box_plan_obeys;
+  box_loads = box_loads;
+  box_longest = λ s lateness p e g c one longer passes. absurd (omega (arith, longer, box_plan_longest s lateness p e g c one passes));
+  box_fewest = λ s lateness p e c one passes. box_plan_fewest s lateness p e (plan_gap p) c one passes refl;
+  box_refused = box_plan_refused;
+  box_too_late = box_too_late;
+  no_even_no_box = no_even_no_box;
   on_duty_lem = kept_on_duty;
   test_on_duty = λ table s p v valid e. kept_on_duty table s (run p) valid (test_accepted s p v e) (test_sound s p v e).1;
   even_on_duty = λ table s p valid e. kept_on_duty table s (run p) valid (even_plan_accepted s p e) (even_plan_obeys s p e).1;

@@ -29,6 +29,9 @@ use Rattle.families.specs.declared.Family.TheVariants.{MinimumDemand, MaximumSup
 use Rattle.families.specs.Families.{schedule_of, schedule_for}
 use Rattle.feasibility.specs.Test.{family_of, figure_passes, test_of, BestOfAll}
 use Rattle.even.specs.Even.{even_plan, evenly}
+use Rattle.boxplan.specs.BoxPlan.{box_plan}
+use Rattle.boxplan.specs.OneGapCycles.{OneGapCycle, plan_gap}
+use Rattle.planfile.specs.PlanFile.{plan_pairs, plan_file, file_after}
 use Rattle.pairs.specs.declared.Pair.{Pair}
 use Rattle.cycle.specs.Cycles.{pair_gap, cycle_run, round, round_records}
 use Rattle.cycle.specs.Check.{check_number, check_file_number}
@@ -104,6 +107,8 @@ pub record Demands : Type 0 where
       → 0 < write_number (length held) c → bytes_after c held ≡ held
   -- nor does a normal form that is refused (document 02, Req 12)
   pub refused_places_kept : (c held : List Pair) (n : ℕ) → normalised (length held) c ≡ Err n → places_after c held ≡ held
+  -- nor does a plan that is not written out
+  pub refused_file_kept : (p : Plan) (held : List ℕ) (n : ℕ) → plan_file (length held) p ≡ Err n → file_after (plan_file (length held) p) held ≡ held
   -- an offer that is refused leaves the meter as it was (document 02, Req 03), whatever the meter holds
   pub refused_meter_kept : (m : Meter) (t d : ℕ) → 0 < (stepped m t d).answer.number → (stepped m t d).meter ≡ m
   -- 2. The figures are those that document 01 defines, over every stretch and every k.
@@ -334,6 +339,42 @@ pub record Demands : Type 0 where
   -- allowed, or some R minutes hold more than B, or some P minutes fewer than L. No schedule breaks a rule and obeys.
   pub even_longest : (s : Spec) (p : Plan) → even_plan s ≡ Ok p → (g : ℕ) → p.period / p.count < g → (sizes : ℕ → ℕ) → Breaks s (evenly g sizes)
   pub breaks_not_obeys : (s : Spec) (t : Schedule) → Breaks s t → ¬ Obeys s t
+  -- A plan written out as a cycle. The k reports of a proper plan of either kind are k pairs, and the endless run of that cycle is the
+  -- plan's: report by report its sizes and its minutes.
+  pub plan_written : (p : Plan) → proper p ≡ true → (length (plan_pairs p) ≡ p.count) × (cycle_run (plan_pairs p) ≡ run p)
+  pub plan_reports : (p : Plan) (i : ℕ) → proper p ≡ true → ((cycle_run (plan_pairs p)).size i ≡ (run p).size i) × (minute (cycle_run (plan_pairs p)) i ≡ minute (run p) i)
+  -- a round of it takes π minutes and holds δ records
+  pub plan_round : (p : Plan) → proper p ≡ true → (round (plan_pairs p) ≡ p.period) × (round_records (plan_pairs p) ≡ p.total)
+  -- 11 exactly where the plan is not proper, else 12 exactly where it has more than 512 reports, else 20 exactly where its file is longer than the room,
+  -- and no other number
+  pub plan_file_numbers : (p : Plan) (room n : ℕ)
+      → (plan_file room p ≡ Err n)
+      ↔ (((n ≡ 11) × (proper p ≡ false))
+      ⊎ (((n ≡ 12) × (proper p ≡ true) × (512 < p.count)) ⊎ ((n ≡ 20) × (proper p ≡ true) × (p.count ≤ 512) × (room < length (cycle_bytes (plan_pairs p))))))
+  -- the file reads back as the pairs, and is made of bytes; and the loader's call gives it 0 exactly where the plan obeys the rules
+  pub plan_reads_back : (p : Plan) → proper p ≡ true → p.count ≤ 512
+      → (read_cycle 512 (cycle_bytes (plan_pairs p)) ≡ Ok (plan_pairs p)) × AreBytes (cycle_bytes (plan_pairs p))
+  pub plan_loads : (spec : List ℕ) (s : Spec) (p : Plan) → read_spec spec ≡ Ok s → proper p ≡ true → p.count ≤ 512
+      → (verdict_of spec (cycle_bytes (plan_pairs p)) ≡ 0) ↔ Obeys s (run p)
+  -- The box plan of a specification for a lateness. It is proper, its cycle has 1 to 512 pairs with one gap throughout, and the check with that
+  -- lateness passes it: so its endless run obeys the rules however the reports are delayed, and the loader's call gives its file 0.
+  pub box_passed : (s : Spec) (lateness : ℕ) (p : Plan) → box_plan s lateness ≡ Ok p
+      → (proper p ≡ true) × OneGapCycle (plan_gap p) (plan_pairs p) × (late_number s lateness (plan_pairs p) ≡ 0)
+  pub box_obeys : (s : Spec) (lateness : ℕ) (p : Plan) → box_plan s lateness ≡ Ok p → EveryDelay lateness (run p) (TimedObeys s)
+  pub box_loads : (spec : List ℕ) (s : Spec) (lateness : ℕ) (p : Plan) → read_spec spec ≡ Ok s → box_plan s lateness ≡ Ok p
+      → verdict_of spec (cycle_bytes (plan_pairs p)) ≡ 0
+  -- At every longer gap each cycle of 1 to 512 pairs with that one gap fails. At its gap no cycle with fewer pairs passes, and none that passes with
+  -- as many pairs holds fewer records.
+  pub box_longest : (s : Spec) (lateness : ℕ) (p : Plan) → box_plan s lateness ≡ Ok p → (g : ℕ) (c : List Pair) → OneGapCycle g c → plan_gap p < g
+      → ¬ (late_number s lateness c ≡ 0)
+  pub box_fewest : (s : Spec) (lateness : ℕ) (p : Plan) → box_plan s lateness ≡ Ok p → (c : List Pair) → OneGapCycle (plan_gap p) c → late_number s lateness c ≡ 0
+      → (p.count ≤ length c) × (length c ≡ p.count → p.total ≤ round_records c)
+  -- 30 is given exactly when every cycle of 1 to 512 pairs with one gap throughout fails, 26 exactly for a J above 1,440, and where the even plan is
+  -- refused, so is the box plan
+  pub box_refused : (s : Spec) (lateness : ℕ) → IsAccepted s → lateness ≤ 1_440
+      → (box_plan s lateness ≡ Err 30) ↔ ((g : ℕ) (c : List Pair) → OneGapCycle g c → ¬ (late_number s lateness c ≡ 0))
+  pub box_too_late : (s : Spec) (lateness : ℕ) → IsAccepted s → (box_plan s lateness ≡ Err 26) ↔ (1_440 < lateness)
+  pub no_even_no_box : (s : Spec) (lateness : ℕ) → IsAccepted s → lateness ≤ 1_440 → even_plan s ≡ Err 10 → box_plan s lateness ≡ Err 30
   -- Run on duty minutes (document 02, Req 11), every schedule that obeys, so every cycle that is passed, still holds at most B in any R calendar
   -- minutes and keeps smin there; and so does every plan that the test passed, and every even plan.
   pub on_duty_lem : (table : Table) (s : Spec) (t : Schedule) → IsTable table → IsAccepted s → Obeys s t → KeptOnDuty table s t
