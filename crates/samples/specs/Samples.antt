@@ -1,7 +1,7 @@
 -- Document 01, "Samples": those marked ★ as one table, and one proof that the definitions give every value that it prints. The sizes of
 -- B with 15 are those of document 02, Req 02, its offers those of Req 03, and what four reports of it cost that of Req 08; what F gets is
 -- that of Req 07; the way back from minutes, of Req 05, the other bills, late reports, of Req 09, normal forms, of Req 12, shortest stretches, of
--- Req 14, and F with B = 15 are ours.
+-- Req 14, box plans, and F with B = 15 are ours.
 use Rattle.std.specs.Prelude.{ℕ, ◌+◌, ◌*◌, ◌≡◌, refl, List, [], ◌∷◌, ◌++◌, Bool, true, false, ◌&&◌, eqb, length, Option, None, Some, Result, Ok, Err}
 use Rattle.spec.specs.declared.Rate.{Rate}
 use Rattle.spec.specs.declared.Range.{Range}
@@ -23,8 +23,12 @@ use Rattle.families.specs.declared.Scheduled.{Scheduled}
 use Rattle.families.specs.Families.{schedule_with, schedule_for, scheduled, exists, plan_for, supply_figure, required, available, least}
 use Rattle.feasibility.specs.Test.{test_of, test_consistent, test_taken, figure_passes, taken, first_count, last_count, taken_from, better_of, is_better, family_of}
 use Rattle.even.specs.Even.{even_plan, plan_or10, even_plan_at, even_gap, largest, fits, supply_fits, demand_fits, total_of, count_at}
-use Rattle.answers.specs.Answers.{Answer, consistency_answer, scheduled_answer, tested_answer, even_answer, value_answer, contents_answer, bill_answer, judged_answer}
+use Rattle.boxplan.specs.BoxPlan.{most_at, fewest_records, supply_holds, pairs_fit, fewest_pairs, can_load, box_gap, box_plan_at, plan_or30, box_plan}
+use Rattle.planfile.specs.PlanFile.{pairs_from, plan_pairs, plan_file}
+use Rattle.cyclefile.specs.File.{pair_bytes, pairs_bytes, cycle_bytes, write_number, file_answer}
+use Rattle.answers.specs.Answers.{Answer, consistency_answer, scheduled_answer, tested_answer, plan_answer, value_answer, contents_answer, bill_answer, judged_answer}
 use Rattle.lateness.specs.Lateness.{late_gap_allowed, late_supply, late_demand, lateness_number}
+use Rattle.lateness.specs.PlannedSpec.{joined_end, second_apart, shortened, planned_spec}
 use Rattle.pairs.specs.declared.Pair.{Pair}
 use Rattle.pairs.specs.Pairs.{flatten}
 use Rattle.cycle.specs.Cycles.{pair_gap, pair_size, cycle_run, round}
@@ -57,6 +61,10 @@ pub data Claim : Type 0 where
   even_gives : (gap k total : ℕ) → Claim
   even_reports : (minutes sizes : List ℕ) → Claim
   even_refuses : (number : ℕ) → Claim
+  box_gives : (lateness gap k total : ℕ) → Claim
+  box_refuses : (lateness number : ℕ) → Claim
+  box_writes : (lateness room : ℕ) (file : List ℕ) → Claim
+  box_not_written : (lateness room number : ℕ) → Claim
   minimum_demand_minute : (k minute last nearest : ℕ) → Claim
   minimum_demand_between : (k a b reports records : ℕ) → Claim
   even_minute : (minute last nearest : ℕ) → Claim
@@ -122,6 +130,11 @@ of_even : Result Plan ℕ → (Plan → Bool) → Bool
 of_even (Ok p) holds = holds p
 of_even (Err n) holds = false
 
+-- what is written of a plan
+file_is : Result (List ℕ) ℕ → List ℕ → Bool
+file_is (Ok bytes) file = same bytes file
+file_is (Err n) file = false
+
 same_rate : Option Rate → Option Rate → Bool
 same_rate None None = true
 same_rate (Some x) (Some y) = eqb x.records y.records && eqb x.minutes y.minutes
@@ -166,9 +179,13 @@ claim_holds s (maximum_supply k π δ v) = answer_is (scheduled_answer (schedule
 claim_holds s (test_passes k π δ v) = answer_is (tested_answer (test_of s)) 0 (well_formed ∷ k ∷ π ∷ δ ∷ v ∷ [])
 claim_holds s (test_refuses n) = answer_is (tested_answer (test_of s)) n []
 claim_holds s (test_fails c) = answer_is (tested_answer (test_of s)) 7 (c ∷ [])
-claim_holds s (even_gives g k δ) = answer_is (even_answer (even_plan s)) 0 (even ∷ k ∷ k * g ∷ δ ∷ [])
+claim_holds s (even_gives g k δ) = answer_is (plan_answer (even_plan s)) 0 (even ∷ k ∷ k * g ∷ δ ∷ [])
 claim_holds s (even_reports minutes sizes) = of_even (even_plan s) (λ p. reports_are p 0 minutes sizes)
-claim_holds s (even_refuses n) = answer_is (even_answer (even_plan s)) n []
+claim_holds s (even_refuses n) = answer_is (plan_answer (even_plan s)) n []
+claim_holds s (box_gives lateness g k δ) = answer_is (plan_answer (box_plan s lateness)) 0 (even ∷ k ∷ k * g ∷ δ ∷ [])
+claim_holds s (box_refuses lateness n) = answer_is (plan_answer (box_plan s lateness)) n []
+claim_holds s (box_writes lateness room file) = of_even (box_plan s lateness) (λ p. file_is (plan_file room p) file)
+claim_holds s (box_not_written lateness room n) = of_even (box_plan s lateness) (λ p. answer_is (value_answer (file_answer (plan_file room p))) n [])
 claim_holds s (minimum_demand_minute k m i j) = of_schedule (schedule_for MinimumDemand s k) (λ p. minute_is p m i j)
 claim_holds s (minimum_demand_between k a b n d) = of_schedule (schedule_for MinimumDemand s k) (λ p. between_is p a b n d)
 claim_holds s (even_minute m i j) = of_even (even_plan s) (λ p. minute_is p m i j)
@@ -239,8 +256,11 @@ samples =
     ∷ minimum_demand_between 3 52 158 2 11
     ∷ minimum_demand_costs 3 4 56 6
     ∷ test_passes 3 158 17 29
-    ∷ even_gives 52 3 17 ∷ [])
-    ∷ sample 3 10 45 55 28 220 17 158 (test_refuses 9 ∷ even_refuses 10 ∷ [])
+    ∷ even_gives 52 3 17
+    ∷ box_gives 0 52 3 17
+    ∷ box_gives 5 50 3 17
+    ∷ box_refuses 6 30 ∷ [])
+    ∷ sample 3 10 45 55 28 220 17 158 (test_refuses 9 ∷ even_refuses 10 ∷ box_refuses 0 30 ∷ [])
     -- ★B
     ∷ sample 2 3 5 5 16 26 10 20 (test_passes 4 20 10 16 ∷ minimum_demand 4 20 10 16 ∷ [])
     -- ★B = 15, its file and the listing of its even plan; ★G; offers, of which one that is refused far ahead drops nothing
@@ -249,6 +269,10 @@ samples =
     ∷ test_refuses 9
     ∷ even_gives 5 4 10
     ∷ even_reports (0 ∷ 5 ∷ 10 ∷ 15 ∷ []) (3 ∷ 2 ∷ 3 ∷ 2 ∷ [])
+    -- two pairs will do for a box
+    ∷ box_gives 0 5 2 5
+    ∷ box_writes 0 10 (0 ∷ 2 ∷ 3 ∷ 0 ∷ 5 ∷ 0 ∷ 3 ∷ 2 ∷ 0 ∷ 2 ∷ [])
+    ∷ box_not_written 0 9 20
     ∷ even_minute 12 2 2
     ∷ even_minute 13 2 3
     ∷ even_between 5 25 4 10
@@ -286,7 +310,7 @@ samples =
     ∷ offer 28 3 15 0
     ∷ offer 29 3 0 0 ∷ []) ∷ [])
     -- ★B = 14
-    ∷ sample 2 3 5 5 14 26 10 20 (even_refuses 10 ∷ [])
+    ∷ sample 2 3 5 5 14 26 10 20 (even_refuses 10 ∷ box_refuses 0 30 ∷ [])
     -- ★C
     ∷ sample 5 6 45 46 10 79 17 159 (maximum_supply 2 90 10 15 ∷ test_refuses 9 ∷ even_refuses 10 ∷ [])
     -- ★D
@@ -315,14 +339,19 @@ samples =
     -- late reports: 16 is between the ranges; of the gaps 15 to 65 both ends are allowed
     ∷ late_gets (cycle 15 (4 ∷ [])) 0 0
     ∷ late_gets (cycle 15 (4 ∷ [])) 1 13
-    ∷ late_gets (cycle 40 (4 ∷ [])) 25 13 ∷ [])
+    ∷ late_gets (cycle 40 (4 ∷ [])) 25 13
+    -- the box plan: 65 to 85 minutes are left of the second range, then 75 alone, then nothing of either
+    ∷ box_gives 5 85 1 8
+    ∷ box_gives 15 75 1 8
+    ∷ box_refuses 16 30 ∷ [])
     ∷ sample_with (Some (range_of 16 90)) 1 10 5 15 22 60 8 90 (
     cycle_gets (cycle 15 (8 ∷ []) ++ cycle 30 (4 ∷ []) ++ cycle 90 (8 ∷ [])) 0
     ∷ late_gets (cycle 15 (4 ∷ [])) 10 0
     ∷ late_gets (cycle 15 (4 ∷ [])) 11 13
     ∷ late_gets (cycle 40 (4 ∷ [])) 10 0
-    ∷ late_gets (cycle 40 (4 ∷ [])) 11 16 ∷ [])
-    ∷ sample_with (Some (range_of 15 90)) 1 10 5 15 22 60 8 90 (consistency_gets 24 ∷ test_refuses 24 ∷ even_refuses 24 ∷ late_gets [] 1441 24 ∷ [])
+    ∷ late_gets (cycle 40 (4 ∷ [])) 11 16
+    ∷ box_gives 10 80 1 8 ∷ [])
+    ∷ sample_with (Some (range_of 15 90)) 1 10 5 15 22 60 8 90 (consistency_gets 24 ∷ test_refuses 24 ∷ even_refuses 24 ∷ late_gets [] 1441 24 ∷ box_refuses 1441 24 ∷ [])
     -- reports that arrive late (document 02, Req 09): samples/late.spec with its cycles
     ∷ sample 1 2 2 6 4 6 2 8 (
     late_gets (cycle 4 (2 ∷ [])) 2 0
@@ -335,7 +364,10 @@ samples =
     ∷ late_gets (cycle 4 (1 ∷ [])) 0 0
     ∷ late_gets (cycle 4 (1 ∷ [])) 1 16
     ∷ late_gets [] 1440 12
-    ∷ late_gets [] 1441 26 ∷ [])
+    ∷ late_gets [] 1441 26
+    ∷ box_gives 2 4 1 2
+    ∷ box_refuses 3 30
+    ∷ box_refuses 1441 26 ∷ [])
     -- P minutes of no more than J can be empty; so can P minutes between two reports
     ∷ sample 1 9 1 9 9 1 1 3 (late_gets (cycle 4 (9 ∷ [])) 3 16 ∷ stretch_is (cycle 4 (9 ∷ [])) 16 0 0 ∷ [])
     ∷ []
@@ -346,5 +378,5 @@ samples_hold (x ∷ xs) = claims_hold x.spec x.claims && samples_hold xs
 
 -- Every value of the table is what the definitions compute.
 pub samples_hold_lem : samples_hold samples ≡ true
-unfolding samples_hold samples sample sample_with cycle two_rounds offer offered left_is answers_are claims_hold claim_holds same answer_is report_is reports_are well_formed even minute_is between_is bill_is of_schedule of_even same_rate same_range read_to spec_number first_number limits order rate_limits range_limits range_order starts_above in_range size_allowed gap_allowed top_of read_spec if_none second_number one_range_number started sum minute held_from stretch proper run kind_run well_size well_gap even_first even_size report_of if_proper between_of greatest last_report first_least nearest_report reports_from records_from consistency_of conditions_of bounds_fit_rates size_fits_budget gap_fits_demand demand_fits_duration fewest_reports_fit_budget enough_reports_for_demand supply_covers_demand where_there ceil schedule_for both_rates rates_from scheduled exists plan_for supply_figure required available least test_of test_consistent test_taken figure_passes taken first_count last_count schedule_with taken_from better_of is_better family_of even_plan plan_or10 even_plan_at even_gap largest fits supply_fits demand_fits total_of count_at pair_gap pair_size cycle_run round check_number cycle_number first_refusal gaps_allowed sizes_allowed supply_kept demand_met lateness_number late_number late_cycle_number late_gap_allowed late_gaps_allowed late_supply late_demand all price_in charge tenths plan_bill cycle_bill first shows_full shows_thin shortest shortest_full shortest_thin shortest_stretch pair_of repeats period row in_order comes_first least_start normal_form normalised counted_at too_early over_budget no_place offer_number after later budget_left offer_answer plain_answers
+unfolding samples_hold samples sample box_plan plan_or30 box_plan_at box_gap can_load fewest_pairs pairs_fit supply_holds fewest_records most_at joined_end second_apart shortened planned_spec pairs_from plan_pairs plan_file pair_bytes pairs_bytes cycle_bytes write_number file_is sample_with cycle two_rounds offer offered left_is answers_are claims_hold claim_holds same answer_is report_is reports_are well_formed even minute_is between_is bill_is of_schedule of_even same_rate same_range read_to spec_number first_number limits order rate_limits range_limits range_order starts_above in_range size_allowed gap_allowed top_of read_spec if_none second_number one_range_number started sum minute held_from stretch proper run kind_run well_size well_gap even_first even_size report_of if_proper between_of greatest last_report first_least nearest_report reports_from records_from consistency_of conditions_of bounds_fit_rates size_fits_budget gap_fits_demand demand_fits_duration fewest_reports_fit_budget enough_reports_for_demand supply_covers_demand where_there ceil schedule_for both_rates rates_from scheduled exists plan_for supply_figure required available least test_of test_consistent test_taken figure_passes taken first_count last_count schedule_with taken_from better_of is_better family_of even_plan plan_or10 even_plan_at even_gap largest fits supply_fits demand_fits total_of count_at pair_gap pair_size cycle_run round check_number cycle_number first_refusal gaps_allowed sizes_allowed supply_kept demand_met lateness_number late_number late_cycle_number late_gap_allowed late_gaps_allowed late_supply late_demand all price_in charge tenths plan_bill cycle_bill first shows_full shows_thin shortest shortest_full shortest_thin shortest_stretch pair_of repeats period row in_order comes_first least_start normal_form normalised counted_at too_early over_budget no_place offer_number after later budget_left offer_answer plain_answers
 samples_hold_lem = refl

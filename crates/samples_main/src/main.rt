@@ -125,6 +125,33 @@ fn even_plan(rt: &impl Print, s: Spec) -> io::Result<()> {
     }
 }
 
+// The box plan for a lateness.
+fn box_plan(rt: &impl Print, s: Spec, lateness: u32) -> io::Result<()> {
+    print!(rt; "  box plan late by {lateness}")?;
+    match boxplan::box_plan(s, lateness) {
+        Ok(p) => {
+            numbers_of(rt, p)?;
+            written(rt, p)
+        }
+        Err(refusal) => refused(rt, refusal),
+    }
+}
+
+// The bytes of a plan written out, of at most 16.
+fn written(rt: &impl Print, p: Plan) -> io::Result<()> {
+    let mut file = [0u8; 16];
+    match planfile::write(p, &mut file) {
+        Ok(length) => {
+            print!(rt; ", written")?;
+            for byte in file.iter().take(length as usize) {
+                print!(rt; " {}", byte)?;
+            }
+            println!(rt)
+        }
+        Err(refusal) => refused(rt, refusal),
+    }
+}
+
 // The number of a report, or that of the refusal.
 fn report_number(found: Result<u32, Refusal>) -> u32 {
     match found {
@@ -419,6 +446,28 @@ fn normal_forms(rt: &impl Print) -> io::Result<()> {
     normal_form(rt, &[pair(30, 4), c, pair(15, 8)], 3)
 }
 
+// Box plans of A, of B with 15 and 14, of two shifts, with ranges that touch, and of late reports; of each one whose lateness leaves no gap, and one
+// with a lateness that is too long.
+fn box_plans(rt: &impl Print) -> io::Result<()> {
+    println!(rt; "Box plans")?;
+    let a = sample((3, 10), (45, 55), (29, 220), (17, 158));
+    for lateness in [0, 5, 6] {
+        box_plan(rt, a, lateness)?;
+    }
+    for budget in [15, 14] {
+        box_plan(rt, sample((2, 3), (5, 5), (budget, 26), (10, 20)), 0)?;
+    }
+    for lateness in [5, 15, 16] {
+        box_plan(rt, shifts(60, 90), lateness)?;
+    }
+    box_plan(rt, shifts(16, 90), 10)?;
+    let late = sample((1, 2), (2, 6), (4, 6), (2, 8));
+    for lateness in [2, 3, 1441] {
+        box_plan(rt, late, lateness)?;
+    }
+    Ok(())
+}
+
 // Which of two dated files is in force, and the bytes of its cycle part.
 fn in_force(rt: &impl Print, first: &[u8], second: &[u8]) -> io::Result<()> {
     match dated::in_force(first, second) {
@@ -459,6 +508,7 @@ fn main(rt: HostRuntime) -> io::Result<()> {
     two_shifts(&rt)?;
     ranges_that_touch(&rt)?;
     late_reports(&rt)?;
+    box_plans(&rt)?;
     normal_forms(&rt)?;
     dated_files(&rt)
 }
