@@ -1,5 +1,5 @@
 /*
- * The twenty-four calls from C, through include/maxeltu.h: the samples, every
+ * The twenty-six calls from C, through include/maxeltu.h: the samples, every
  * refusal of every call, and the places that a call must leave as they were.
  *
  * Prints a line for each group, whose name starts with the argument if there is
@@ -120,6 +120,13 @@ static uint32_t even_plan(struct spec_file s)
 {
     fill_places();
     return maxeltu_even_plan(SPEC(s), &places[0], &places[1], &places[2]);
+}
+
+/* k comes to the first place, the period to the third and the total to the fourth. */
+static uint32_t box_plan(struct spec_file s, uint32_t lateness)
+{
+    fill_places();
+    return maxeltu_box_plan(SPEC(s), lateness, &places[0], &places[2], &places[3]);
 }
 
 /* The number comes to the first place. */
@@ -635,6 +642,8 @@ static void refused_everywhere(struct spec_file s, uint32_t refusal)
     CHECK(max_supply(s, 1) == refusal && untouched());
     CHECK(test(s) == refusal && untouched());
     CHECK(even_plan(s) == refusal && untouched());
+    CHECK(box_plan(s, 0) == refusal && untouched());
+    CHECK(box_plan(s, UINT32_MAX) == refusal && untouched());
     CHECK(maxeltu_check_cycle(SPEC(s), &pair, 1) == refusal);
     CHECK(maxeltu_check_cycle(SPEC(s), &pair, 0) == refusal);
     CHECK(maxeltu_check_late(SPEC(s), &pair, 1, 1) == refusal);
@@ -977,6 +986,174 @@ static void longest_cycle(void)
     CHECK(maxeltu_check_late(SPEC(wide), cycle, MAXELTU_MAX_PAIRS, 99) == 0);
     CHECK(maxeltu_check_late(SPEC(wide), cycle, MAXELTU_MAX_PAIRS, 100) == MAXELTU_GAP);
     CHECK(maxeltu_check_late(SPEC(wide), pairs, MAXELTU_MAX_PAIRS + 1, 99) == MAXELTU_COUNT);
+    end();
+}
+
+/* ---- box plans, and plans written out ---- */
+
+/* A specification's box plan, with so much lateness. */
+static bool box_plan_is(struct spec_file s, uint32_t lateness, uint32_t k, uint32_t period, uint32_t total)
+{
+    return box_plan(s, lateness) == MAXELTU_OK && places[0] == k && places[2] == period && places[3] == total
+        && places[1] == held[1] && places[4] == held[4];
+}
+
+static bool no_box_plan(struct spec_file s, uint32_t lateness, uint32_t refusal)
+{
+    return box_plan(s, lateness) == refusal && untouched();
+}
+
+/* The room that a plan is written into, and how much of it is the file; all past it must stay. */
+static uint8_t room[MAXELTU_MAX_CYCLE_FILE + 8];
+
+static bool room_untouched_from(size_t first)
+{
+    for (size_t i = first; i < sizeof room; i++)
+        if (room[i] != 0x5A)
+            return false;
+    return true;
+}
+
+/* The length comes to the second place. */
+static uint32_t write_plan(uint32_t kind, uint32_t k, uint32_t period, uint32_t total, size_t bytes)
+{
+    memset(room, 0x5A, sizeof room);
+    fill_places();
+    return maxeltu_write_plan(kind, k, period, total, room, bytes, &places[1]);
+}
+
+static bool only_length_written(void)
+{
+    return places[0] == held[0] && places[1] <= sizeof room && untouched_from(2) && room_untouched_from(places[1]);
+}
+
+static bool plan_refused(uint32_t refusal, uint32_t kind, uint32_t k, uint32_t period, uint32_t total, size_t bytes)
+{
+    return write_plan(kind, k, period, total, bytes) == refusal && untouched() && room_untouched_from(0);
+}
+
+/* A plan has this file, in room that is just enough, and in more; a byte less is too little. */
+static bool plan_written(uint32_t kind, uint32_t k, uint32_t period, uint32_t total, const uint8_t *file, size_t length)
+{
+    return write_plan(kind, k, period, total, length) == MAXELTU_OK && places[1] == length && only_length_written()
+        && memcmp(room, file, length) == 0
+        && write_plan(kind, k, period, total, sizeof room) == MAXELTU_OK && places[1] == length && only_length_written()
+        && memcmp(room, file, length) == 0
+        && plan_refused(MAXELTU_NO_ROOM, kind, k, period, total, length - 1)
+        && plan_refused(MAXELTU_NO_ROOM, kind, k, period, total, 0);
+}
+
+static void samples_of_box_plans(void)
+{
+    begin("samples of box plans");
+    CHECK(box_plan_is(sample_b(15), 0, 2, 10, 5));
+    CHECK(box_plan_is(sample_b(16), 0, 2, 10, 5));
+    CHECK(no_box_plan(sample_b(14), 0, MAXELTU_NO_BOX_PLAN));
+    CHECK(no_box_plan(sample_b(15), 1, MAXELTU_NO_BOX_PLAN));
+    static const uint32_t of_a[] = { 52, 52, 52, 51, 51, 50 };
+    for (uint32_t lateness = 0; lateness < 6; lateness++)
+        CHECK(box_plan_is(sample_a(29), lateness, 3, 3 * of_a[lateness], 17));
+    CHECK(no_box_plan(sample_a(29), 6, MAXELTU_NO_BOX_PLAN));
+    CHECK(no_box_plan(sample_c(), 0, MAXELTU_NO_BOX_PLAN) && no_box_plan(sample_d(), 0, MAXELTU_NO_BOX_PLAN));
+    CHECK(no_box_plan(sample_f(), 0, MAXELTU_NO_BOX_PLAN));
+    CHECK(box_plan_is(sample_e(), 0, 1, 79, 9));
+    CHECK(box_plan_is(two_shifts(60, 90), 0, 1, 90, 8) && box_plan_is(two_shifts(60, 90), 15, 1, 75, 8));
+    CHECK(no_box_plan(two_shifts(60, 90), 16, MAXELTU_NO_BOX_PLAN));
+    CHECK(box_plan_is(two_shifts(16, 90), 16, 1, 74, 8) && box_plan_is(two_shifts(16, 90), 40, 1, 50, 8));
+    /* One record in each of 513 pairs, but for one of two, is in no cycle; in 512 it is. */
+    CHECK(no_box_plan(spec_of(15, 8, 1, 2, 1, 1, 514, 513, 514, 513), 0, MAXELTU_NO_BOX_PLAN));
+    CHECK(box_plan_is(spec_of(15, 8, 1, 2, 1, 1, 513, 512, 513, 512), 0, 512, 512, 513));
+    end();
+}
+
+/* The file that was loaded last. */
+static uint8_t loaded[MAXELTU_MAX_CYCLE_FILE];
+static uint32_t loaded_length;
+
+static void load(const uint8_t *file, uint32_t length)
+{
+    memcpy(loaded, file, length);
+    loaded_length = length;
+}
+
+/* The lines of the header. */
+static void load_box_plan(const uint8_t *spec, size_t spec_length)
+{
+    uint8_t file[MAXELTU_MAX_CYCLE_FILE];
+    uint32_t k, period, total, length;
+    if (maxeltu_box_plan(spec, spec_length, 0, &k, &period, &total) == 0 &&
+        maxeltu_write_plan(MAXELTU_EVEN, k, period, total, file, sizeof file, &length) == 0 &&
+        maxeltu_verdict(spec, spec_length, file, length) == 0)
+        load(file, length);
+}
+
+/* They load this file, or none. */
+static bool loads(struct spec_file s, const uint8_t *file, size_t length)
+{
+    loaded_length = 0;
+    load_box_plan(SPEC(s));
+    return loaded_length == length && memcmp(loaded, file, length) == 0;
+}
+
+static void checked_cycle_files(void)
+{
+    begin("from a specification to a checked cycle file");
+    CHECK(loads(sample_b(15), BYTES(0, 2, 3, 0, 5, 0, 3, 2, 0, 2)));
+    CHECK(loads(sample_a(29), BYTES(0, 3, 3, 0, 52, 0, 6, 0, 2, 0, 5)));
+    CHECK(loads(two_shifts(60, 90), BYTES(0, 1, 3, 0, 90, 0, 8)));
+    CHECK(loads(sample_b(14), loaded, 0));
+    /* One record a report, but for the first, in 512 of them. */
+    uint8_t longest[2 + 5 + 511 + 2] = { 2, 0, 3, 0, 1, 0, 2, 2, 0, 1 };
+    CHECK(loads(spec_of(15, 8, 1, 2, 1, 1, 513, 512, 513, 512), longest, sizeof longest));
+    /* The other reports may be late too. */
+    for (uint32_t lateness = 0; lateness < 6; lateness++) {
+        struct spec_file s = sample_a(29);
+        CHECK(box_plan(s, lateness) == MAXELTU_OK);
+        CHECK(write_plan(MAXELTU_EVEN, places[0], places[2], places[3], sizeof room) == MAXELTU_OK && only_length_written());
+        CHECK(read_cycle(room, places[1], MAXELTU_MAX_PAIRS) == MAXELTU_OK && hold(1, 3));
+        CHECK(maxeltu_check_late(SPEC(s), pairs, 3, lateness) == MAXELTU_OK);
+    }
+    end();
+}
+
+static void written_plans(void)
+{
+    begin("plans written out");
+    CHECK(plan_written(MAXELTU_EVEN, 4, 20, 10, BYTES(0, 4, 3, 0, 5, 0, 3, 2, 0, 2, 2, 0, 3, 2, 0, 2)));
+    CHECK(plan_written(MAXELTU_WELL_FORMED, 4, 20, 10, BYTES(0, 4, 3, 0, 5, 0, 3, 0, 2, 0, 2, 0)));
+    CHECK(plan_written(MAXELTU_WELL_FORMED, 3, 158, 17, BYTES(0, 3, 3, 0, 52, 0, 6, 1, 0, 53, 2, 0, 5)));
+    CHECK(plan_written(MAXELTU_WELL_FORMED, 2, 11, 5, BYTES(0, 2, 3, 0, 5, 0, 3, 3, 0, 6, 0, 2)));
+    CHECK(plan_written(MAXELTU_EVEN, 1, 1, 1, BYTES(0, 1, 3, 0, 1, 0, 1)));
+    CHECK(plan_written(MAXELTU_EVEN, 1, 20160, 1000, BYTES(0, 1, 3, 0x4E, 0xC0, 0x03, 0xE8)));
+    /* Sizes 2 and 1 in turn: of even plans no file is longer. */
+    CHECK(write_plan(MAXELTU_EVEN, MAXELTU_MAX_PAIRS, MAXELTU_MAX_PAIRS, 768, 1540) == MAXELTU_OK);
+    CHECK(places[1] == 2 + 5 + 3 * 511 && only_length_written());
+    CHECK(read_cycle(room, places[1], MAXELTU_MAX_PAIRS) == MAXELTU_OK && hold(1, MAXELTU_MAX_PAIRS));
+    for (uint32_t i = 0; i < MAXELTU_MAX_PAIRS; i++)
+        CHECK(report_is(MAXELTU_EVEN, MAXELTU_MAX_PAIRS, MAXELTU_MAX_PAIRS, 768, i, i, pairs[i].size) && pairs[i].gap == 1);
+    end();
+}
+
+static void refusals_of_box_plans(void)
+{
+    begin("refusals 26 and 30 of box plans, 11, 12 and 20 of plans written out");
+    static const uint32_t too_late[] = { 1441, 1442, 65536, 65536 + 1440, 0x80000000, UINT32_MAX };
+    for (size_t i = 0; i < sizeof too_late / sizeof *too_late; i++)
+        CHECK(no_box_plan(sample_b(15), too_late[i], MAXELTU_TOO_LATE) && no_box_plan(sample_b(14), too_late[i], MAXELTU_TOO_LATE));
+    CHECK(box_plan_is(spec_of(3, 4, 3, 9, 1, 2881), MAXELTU_MAX_LATENESS, 1, 1441, 3));
+    CHECK(no_box_plan(spec_of(3, 4, 3, 9, 1, 2880), MAXELTU_MAX_LATENESS, MAXELTU_NO_BOX_PLAN));
+    static const size_t rooms[] = { 0, 7, sizeof room };
+    for (size_t r = 0; r < sizeof rooms / sizeof *rooms; r++) {
+        for (size_t i = 0; i < sizeof improper / sizeof *improper; i++) {
+            const uint32_t *plan = improper[i];
+            CHECK(plan_refused(MAXELTU_PLAN_IMPROPER, plan[0], plan[1], plan[2], plan[3], rooms[r]));
+        }
+        CHECK(plan_refused(MAXELTU_PLAN_IMPROPER, MAXELTU_EVEN, 513, 514, 513, rooms[r]));
+        CHECK(plan_refused(MAXELTU_PLAN_IMPROPER, 2, 513, 513, 513, rooms[r]));
+        CHECK(plan_refused(MAXELTU_COUNT, MAXELTU_EVEN, 513, 513, 513, rooms[r]));
+        CHECK(plan_refused(MAXELTU_COUNT, MAXELTU_WELL_FORMED, 513, 514, 514, rooms[r]));
+        CHECK(plan_refused(MAXELTU_COUNT, MAXELTU_EVEN, 20160, 406425600, 20160000, rooms[r]));
+    }
     end();
 }
 
@@ -1748,6 +1925,8 @@ static void null_for_empty(void)
     CHECK(maxeltu_verdict(NULL, 0, NULL, 0) == MAXELTU_SPEC_MAP);
     CHECK(maxeltu_verdict(SPEC(b15), NULL, 0) == MAXELTU_FILE_CUT);
     CHECK(maxeltu_even_plan(NULL, 0, &places[0], &places[1], &places[2]) == MAXELTU_SPEC_MAP);
+    CHECK(maxeltu_box_plan(NULL, 0, 0, &places[0], &places[1], &places[2]) == MAXELTU_SPEC_MAP);
+    CHECK(maxeltu_write_plan(MAXELTU_EVEN, 2, 10, 5, NULL, 0, &places[0]) == MAXELTU_NO_ROOM);
     CHECK(maxeltu_check_cycle(SPEC(b15), NULL, 0) == MAXELTU_COUNT);
     CHECK(maxeltu_check_late(SPEC(b15), NULL, 0, 10) == MAXELTU_COUNT);
     CHECK(maxeltu_shortest_stretch(SPEC(b15), NULL, 0, &places[0], &places[1]) == MAXELTU_COUNT);
@@ -1793,6 +1972,10 @@ int main(int argc, char **argv)
     reading_cycles();
     writing_cycles();
     longest_cycle();
+    samples_of_box_plans();
+    checked_cycle_files();
+    written_plans();
+    refusals_of_box_plans();
     samples_of_normal_forms();
     turns_of_normal_forms();
     long_normal_forms();

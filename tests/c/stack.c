@@ -133,6 +133,15 @@ static void normal_form(void) { answer = maxeltu_normal_form(pairs, count, place
 static void read_cycle(void) { answer = maxeltu_read_cycle(cycle_file, cycle_length, places, COUNT_OF(places), &number); }
 static void write_cycle(void) { answer = maxeltu_write_cycle(pairs, count, bytes, sizeof bytes, &number); }
 
+/* A plan of so many reports, with two sizes and two gaps. None has no report: it is not proper. */
+static void write_plan(void)
+{
+    uint32_t k = (uint32_t)count;
+    answer = maxeltu_write_plan(MAXELTU_WELL_FORMED, k, 5 * k + k / 2, 3 * k + k / 2, bytes, sizeof bytes, &number);
+    if (k == 0 && answer == MAXELTU_PLAN_IMPROPER)
+        answer = MAXELTU_COUNT;
+}
+
 /* Equal files: both are read, and then compared to their ends. */
 static void in_force(void)
 {
@@ -242,6 +251,7 @@ int main(void)
         { "maxeltu_in_force", in_force, false, UNPACKED_CYCLE / 8 },
         { "maxeltu_read_cycle", read_cycle, false, 2 * UNPACKED_CYCLE },
         { "maxeltu_write_cycle", write_cycle, false, 2 * UNPACKED_CYCLE },
+        { "maxeltu_write_plan", write_plan, false, 2 * UNPACKED_CYCLE },
     };
     measure_itself();
     for (size_t i = 0; i < COUNT_OF(calls); i++)

@@ -51,6 +51,15 @@ pub fn listed(made: Result<Vec<Pair>, Refusal>, before: &[Pair], count: u32) -> 
     (expected(made.map(|pairs| [pairs.len() as u64]), [count]), held)
 }
 
+/// The same of a file, which it writes to the first bytes, and of their number.
+pub fn put_before(made: Result<Vec<u8>, Refusal>, before: &[u8], written: u32) -> (Outcome<1>, Vec<u8>) {
+    let mut held = before.to_vec();
+    if let Ok(file) = &made {
+        held[..file.len()].copy_from_slice(file);
+    }
+    (expected(made.map(|file| [file.len() as u64]), [written]), held)
+}
+
 fn verdict_case(random: &mut Random, library: &mut Library) -> Verdict {
     let (spec, pairs) = generate::spec_and_cycle(random);
     let spec_file = if random.once_in(30) { generate::spec_file(random) } else { spec::write(&spec) };
@@ -164,7 +173,7 @@ fn spec_for_test(random: &mut Random) -> Spec {
 }
 
 /// Moves what makes a specification inconsistent, so that the test itself is reached.
-fn make_consistent(random: &mut Random, spec: &mut Spec, scale: Scale) {
+pub fn make_consistent(random: &mut Random, spec: &mut Spec, scale: Scale) {
     spec.duration = None;
     let (Some((b, r)), Some((l, p))) = (&mut spec.supply, &mut spec.demand) else { return };
     *p = (*p).max(spec.gap.1);

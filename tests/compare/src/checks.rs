@@ -1,6 +1,7 @@
 //! Checks whose answers are written out. Each is made twice: of the library, and of the reference.
 
-use crate::calls::{consistency_outcome, expected, listed};
+use crate::box_plans;
+use crate::calls::{consistency_outcome, expected, listed, put_before};
 use crate::costs::billed;
 use crate::dated::{part_of, told};
 use crate::duty;
@@ -8,6 +9,7 @@ use crate::group::Runner;
 use crate::late;
 use crate::library::{Billed, Library, Outcome};
 use crate::normal::{are_one_run, have_one_form};
+use crate::plans::Handed;
 use crate::ring::{Meter, BYTES};
 use crate::shortest::{given, given_for};
 use reference::cost::{self, Cost};
@@ -108,6 +110,7 @@ impl Checks {
             library.max_supply(file, 1, [HELD; 3]),
             library.test(file, [HELD; 5]),
             library.even_plan(file, [HELD; 3]),
+            [0, 1, 1_440, 1_441, u32::MAX].map(|lateness| library.box_plan(file, lateness, [HELD; 3])),
             remade(library, file),
         );
         let (one, three, five) =
@@ -115,7 +118,7 @@ impl Checks {
         let two = expected(Err(wanted), [HELD; 2]);
         let bills = [billed(Err(wanted), HELD_BILL); 2];
         let kept = (wanted, true);
-        let all = (wanted, wanted, [wanted; 5], two, bills, one, three, three, five, three, kept);
+        let all = (wanted, wanted, [wanted; 5], two, bills, one, three, three, five, three, [three; 5], kept);
         self.holds(format!("library, {name}: {got:?}, not {wanted}"), got == all);
         let read = spec::read(file);
         self.holds(format!("reference, {name}: {read:?}, not {wanted}"), read == Err(wanted));
@@ -188,6 +191,47 @@ impl Checks {
         let made = spec::read(&file).and_then(|spec| even::even_plan(&spec, even::counts_fit));
         let reference = made.map(|plan| [plan.k, plan.period, plan.total]);
         self.outcome(&format!("{name}, even plan"), got, reference, wanted.map(|[gap, k, total]| [k, k * gap, total]));
+    }
+
+    /// Gap, k and total of the box plan for reports that are up to so many minutes late; or the refusal. A plan is written out and checked,
+    /// and what is refused rightly is refused again where nothing can be written.
+    pub fn box_plan(&mut self, name: &str, spec: &Spec, lateness: u32, wanted: Result<[u64; 3], u32>) {
+        let (text, file) = (format!("{name}, box plan, {lateness} minutes late"), spec::write(spec));
+        let got = self.library.box_plan(&file, lateness, [HELD; 3]);
+        let reference = box_plans::given_for(&file, lateness.into(), [HELD; 3]);
+        let wanted = expected(wanted.map(|[gap, k, total]| [k, k * gap, total]), [HELD; 3]);
+        self.both(&text, got, reference, wanted);
+        if wanted.answer == 0 && got == wanted {
+            let loaded = box_plans::loads(spec, lateness.into(), got.places, &mut self.library);
+            self.holds(format!("{text}: {loaded:?}"), loaded.is_ok());
+        }
+        if wanted.answer != 0 && got == wanted {
+            let again = self.library.refused_box_plan(&file, lateness);
+            self.holds(format!("library, {text}, again: {again}"), again == wanted.answer);
+        }
+    }
+
+    /// The file of a plan that is written out into so many bytes; or the refusal. Other bytes stay as they are, and what is refused rightly
+    /// is refused again where nothing can be written.
+    pub fn write_plan(&mut self, name: &str, handed: Handed, room: usize, wanted: Result<&[u8], u32>) {
+        let (text, before) = (format!("{name}, {handed:?} written out into {room} bytes"), vec![HELD_BYTE; room]);
+        let got = self.library.write_plan(handed.kind, handed.numbers(), &before, HELD);
+        let reference = put_before(handed.plan().and_then(|plan| plan.write(room)), &before, HELD);
+        let is_refused = wanted.is_err();
+        let wanted = put_before(wanted.map(<[u8]>::to_vec), &before, HELD);
+        self.both(&text, &got, &reference, &wanted);
+        if is_refused && got == wanted {
+            let again = self.library.refused_write_plan(handed.kind, handed.numbers(), room);
+            self.holds(format!("library, {text}, again: {again}"), again == wanted.0.answer);
+        }
+    }
+
+    /// The same of a plan that is written out, with so much room that most of it cannot be touched.
+    pub fn write_plan_in_much_room(&mut self, name: &str, handed: Handed, room: usize, wanted: &[u8]) {
+        let before = [HELD_BYTE; 4_096];
+        let got = self.library.write_plan_in_much_room(handed.kind, handed.numbers(), &before, room, HELD);
+        let wanted = put_before(Ok(wanted.to_vec()), &before, HELD);
+        self.holds(format!("library, {name}, {handed:?} written out into {room} bytes"), got == wanted);
     }
 
     /// Minute and size of a report; or the refusal.
@@ -445,15 +489,9 @@ impl Checks {
         let pairs = pairs_of(pairs);
         let before = vec![HELD_BYTE; room];
         let got = self.library.write_cycle(&pairs, &before, HELD);
-        let outcome = |file: Result<Vec<u8>, u32>| {
-            let mut bytes = before.clone();
-            if let Ok(file) = &file {
-                bytes[..file.len()].copy_from_slice(file);
-            }
-            (expected(file.map(|file| [file.len() as u64]), [HELD]), bytes)
-        };
-        let reference = outcome(file::write(&pairs, room));
-        self.both(&format!("{name}, written into {room} bytes"), got, reference, outcome(wanted.map(<[u8]>::to_vec)));
+        let reference = put_before(file::write(&pairs, room), &before, HELD);
+        let wanted = put_before(wanted.map(<[u8]>::to_vec), &before, HELD);
+        self.both(&format!("{name}, written into {room} bytes"), got, reference, wanted);
     }
 
     /// A meter of this specification has these numbers, dmin, dmax, smin, B and R, and is 0 otherwise.

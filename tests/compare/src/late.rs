@@ -137,7 +137,7 @@ fn with_room(random: &mut Random, range: (u64, u64), pairs: &[Pair], lateness: u
 }
 
 /// Gives both ranges room for the delays. Where they meet then they are cut anew: they touch, or leave out a gap.
-fn make_room(random: &mut Random, spec: &mut Spec, pairs: &[Pair], lateness: u64) {
+pub fn make_room(random: &mut Random, spec: &mut Spec, pairs: &[Pair], lateness: u64) {
     let first = with_room(random, spec.gap, pairs, lateness);
     spec.gap = (first.0, first.1.max(first.0));
     let Some(second) = spec.second else { return };

@@ -1,4 +1,4 @@
-//! The twenty-four calls of include/maxeltu.h, each wrapped so that its answer can be compared whole: every place that it was lent
+//! The twenty-six calls of include/maxeltu.h, each wrapped so that its answer can be compared whole: every place that it was lent
 //! is handed back with what it holds afterwards, and what it should only have read is looked at again.
 
 use crate::fence::{first_in_reach, out_of_reach, Fence};
@@ -13,6 +13,7 @@ extern "C" {
     fn maxeltu_max_supply(spec: *const u8, spec_len: usize, k: u32, period: *mut u32, total: *mut u32, available: *mut u32) -> u32;
     fn maxeltu_test(spec: *const u8, spec_len: usize, condition: *mut u32, k: *mut u32, period: *mut u32, total: *mut u32, supply: *mut u32) -> u32;
     fn maxeltu_even_plan(spec: *const u8, spec_len: usize, k: *mut u32, period: *mut u32, total: *mut u32) -> u32;
+    fn maxeltu_box_plan(spec: *const u8, spec_len: usize, lateness: u32, k: *mut u32, period: *mut u32, total: *mut u32) -> u32;
     fn maxeltu_report(kind: u32, k: u32, period: u32, total: u32, i: u32, minute: *mut u64, size: *mut u32) -> u32;
     fn maxeltu_last_report(kind: u32, k: u32, period: u32, total: u32, minute: u32, number: *mut u32) -> u32;
     fn maxeltu_nearest_report(kind: u32, k: u32, period: u32, total: u32, minute: u32, number: *mut u32) -> u32;
@@ -25,6 +26,7 @@ extern "C" {
     fn maxeltu_normal_form(pairs: *const Pair, count: usize, normal: *mut Pair, places: usize, normal_count: *mut u32) -> u32;
     fn maxeltu_read_cycle(file: *const u8, file_len: usize, pairs: *mut Pair, places: usize, count: *mut u32) -> u32;
     fn maxeltu_write_cycle(pairs: *const Pair, count: usize, file: *mut u8, room: usize, written: *mut u32) -> u32;
+    fn maxeltu_write_plan(kind: u32, k: u32, period: u32, total: u32, file: *mut u8, room: usize, written: *mut u32) -> u32;
     fn maxeltu_in_force(first: *const u8, first_len: usize, second: *const u8, second_len: usize, which: *mut u32) -> u32;
     fn maxeltu_make_meter(spec: *const u8, spec_len: usize, meter: *mut Meter) -> u32;
     fn maxeltu_offer(meter: *mut Meter, minute: u32, size: u32, left: *mut u32) -> u32;
@@ -52,6 +54,7 @@ pub struct Library {
     normal: Fence<Pair>,
     number: Fence<u32>,
     stretch: Two<u32>,
+    round: Two<u32>,
     records: Fence<u64>,
     bill: Two<u64>,
     meter: Fence<Meter>,
@@ -131,6 +134,7 @@ impl Library {
             normal: Fence::new(PAGES),
             number: Fence::new(1),
             stretch: Two::new(),
+            round: Two::new(),
             records: Fence::new(1),
             bill: Two::new(),
             meter: Fence::new(2),
@@ -188,6 +192,24 @@ impl Library {
         let [mut k, mut period, mut total] = before;
         let answer = self.with_spec(spec, |at, len| unsafe { maxeltu_even_plan(at, len, &mut k, &mut period, &mut total) });
         Outcome { answer, places: [k, period, total] }
+    }
+
+    /// The places are k, the period and the total.
+    pub fn box_plan(&mut self, spec: &[u8], lateness: u32, before: [u32; 3]) -> Outcome<3> {
+        let Library { spec: file, number, round, .. } = self;
+        let (k, (period, total)) = (number.lend(&before[..1]), round.lend([before[1], before[2]]));
+        let answer = lend_spec(file, spec, |at, len| unsafe { maxeltu_box_plan(at, len, lateness, k, period, total) });
+        let ([period, total], k) = (round.held(), number.held(1)[0]);
+        Outcome { answer, places: [k, period, total] }
+    }
+
+    /// A box plan that is refused: all three numbers have places where nothing can be written.
+    pub fn refused_box_plan(&mut self, spec: &[u8], lateness: u32) -> u32 {
+        let Library { spec: file, number, round, .. } = self;
+        lend_spec(file, spec, |at, len| {
+            number
+                .sealed(&[0], |k| round.sealed(|period, total| unsafe { maxeltu_box_plan(at, len, lateness, k, period, total) }))
+        })
     }
 
     /// The places are the high and the low half of the minute, and the size.
@@ -364,6 +386,36 @@ impl Library {
             maxeltu_write_cycle(list, pairs.len(), lent, before.len(), &mut written)
         });
         (Outcome { answer, places: [written] }, self.file.held(before.len()).to_vec())
+    }
+
+    /// The bytes hold `before`; they come back as the call leaves them, beside the number written.
+    pub fn write_plan(&mut self, kind: u32, [k, period, total]: [u32; 3], before: &[u8], written: u32) -> (Outcome<1>, Vec<u8>) {
+        let (lent, number) = (self.file.lend(before), self.number.lend(&[written]));
+        let answer = unsafe { maxeltu_write_plan(kind, k, period, total, lent, before.len(), number) };
+        (Outcome { answer, places: [self.number.held(1)[0]] }, self.file.held(before.len()).to_vec())
+    }
+
+    /// A plan that is not written out: so many bytes, and the place of the number written, lie where nothing can be written.
+    pub fn refused_write_plan(&mut self, kind: u32, [k, period, total]: [u32; 3], room: usize) -> u32 {
+        let Library { file, number, .. } = self;
+        file.sealed(&vec![0; room], |lent| {
+            number.sealed(&[0], |number| unsafe { maxeltu_write_plan(kind, k, period, total, lent, room, number) })
+        })
+    }
+
+    /// The same as `write_plan`, with so much room that only the first bytes, which hold `before`, can be touched.
+    pub fn write_plan_in_much_room(
+        &mut self,
+        kind: u32,
+        [k, period, total]: [u32; 3],
+        before: &[u8],
+        room: usize,
+        written: u32,
+    ) -> (Outcome<1>, Vec<u8>) {
+        let number = self.number.lend(&[written]);
+        let (answer, held) =
+            first_in_reach(before, room, |lent| unsafe { maxeltu_write_plan(kind, k, period, total, lent, room, number) });
+        (Outcome { answer, places: [self.number.held(1)[0]] }, held)
     }
 
     /// The place is the file in force, 1 or 2.

@@ -7,6 +7,8 @@
 // A case that no group runs is a mistake.
 #![deny(dead_code)]
 
+mod box_plan_edges;
+mod box_plans;
 mod calls;
 mod checks;
 mod costs;
@@ -39,7 +41,9 @@ mod rounds;
 mod samples;
 mod shortest;
 mod shortest_edges;
+mod small_box_plans;
 mod tables;
+mod written_plans;
 
 use group::{Runner, RUNS};
 
@@ -67,6 +71,7 @@ fn main() {
             normal_edges::all(&mut runner);
             dated_edges::all(&mut runner);
             shortest_edges::all(&mut runner);
+            box_plan_edges::all(&mut runner);
             calls::reference_itself(&mut runner);
             exhaustive::all(&mut runner);
             calls::all(&mut runner);
@@ -79,6 +84,9 @@ fn main() {
             normal::all(&mut runner);
             dated::all(&mut runner);
             shortest::all(&mut runner);
+            small_box_plans::all(&mut runner);
+            box_plans::all(&mut runner);
+            written_plans::all(&mut runner);
             meters::all(&mut runner);
         }
         ["evenplan", program] => program::all(&mut runner, program.as_ref()),

@@ -1,7 +1,8 @@
 //! The samples of document 01, starred or not, through the library and through the reference, and the files in samples/. The sizes of
 //! even plans are those of document 02, Req 02, the meter is that of Req 03, the van of two shifts that of Req 06, the prices are those
 //! of Req 08, the reports that arrive late those of Req 09, the first report that may be thinner that of Req 10, the week table is that of
-//! Req 11, the normal forms are those of Req 12, the dated files those of Req 13, and the shortest stretches those of Req 14.
+//! Req 11, the normal forms are those of Req 12, the dated files those of Req 13, and the shortest stretches those of Req 14; the box plans
+//! are worked out from their own request.
 
 use crate::checks::{self, both_rates, demand_only, pairs_of, supply_only, with_second, Checks, Offer};
 use crate::dated::dated;
@@ -58,6 +59,7 @@ pub fn all(runner: &mut Runner) {
     checks::group(runner, "samples of plans and cycles, what they cost", costs);
     checks::group(runner, "samples of cycles with late reports", late);
     checks::group(runner, "samples of cycles, the shortest stretch to send back", shortest_stretches);
+    checks::group(runner, "samples of specifications, their box plans", box_plans);
     checks::group(runner, "samples of meters", meters);
     checks::group(runner, "sample of a week table", duty_hours);
     checks::group(runner, "samples of cycles, their normal forms", normal_forms);
@@ -179,6 +181,46 @@ fn late(checks: &mut Checks) {
             checks.late(name, spec, pairs, lateness, wanted);
         }
     }
+}
+
+/// The specifications of samples/, for each lateness from 0 on: gap, pairs and records, or none. What follows the last is none.
+fn box_plans(checks: &mut Checks) {
+    let touching: Vec<[u64; 3]> = (0..=40).map(|lateness| [90 - lateness, 1, 8]).collect();
+    let rows: [(&str, &[[u64; 3]]); 18] = [
+        ("a", &[[52, 3, 17], [52, 3, 17], [52, 3, 17], [51, 3, 17], [51, 3, 17], [50, 3, 17]]),
+        ("a28", &[]),
+        ("b", &[[5, 2, 5]]),
+        ("b15", &[[5, 2, 5]]),
+        ("b14", &[]),
+        ("c", &[]),
+        ("d", &[]),
+        ("e", &[[79, 1, 9]]),
+        ("f", &[]),
+        ("f15", &[[4, 1, 5]]),
+        ("f-no-demand", &[]),
+        ("shift", &touching[..16]),
+        ("touching", &touching),
+        ("late", &[[6, 1, 2], [5, 1, 2], [4, 1, 2]]),
+        ("least", &[[5, 1, 3]]),
+        ("most", &[]),
+        ("apart", &[[3, 1, 1], [2, 1, 1]]),
+        ("day", &[[2, 1, 2]]),
+    ];
+    for (name, wanted) in rows {
+        let spec = spec_in(&format!("{name}.spec"));
+        for lateness in (0..=60).chain([719, 1_439, 1_440]) {
+            checks.box_plan(name, &spec, lateness, wanted.get(lateness as usize).copied().ok_or(30));
+        }
+        for lateness in [1_441, u32::MAX] {
+            checks.box_plan(name, &spec, lateness, Err(26));
+        }
+    }
+    // An even plan of more pairs than a box takes.
+    let day = both_rates((1, 4), (2, 2), (1_500, 1_440), (1_440, 1_440));
+    checks.file("day.spec", &spec::write(&day));
+    checks.even("day.spec", &day, Ok([2, 720, 1_440]));
+    checks.file("day-box.cycle", &file::write(&pairs_of(&[(2, 2)]), usize::MAX).expect("day-box.cycle"));
+    checks.cycle("day-box.cycle", &day, &[(2, 2)], 0);
 }
 
 /// Document 01, sample G, and the cycles of samples/ against the specifications there.
@@ -313,6 +355,11 @@ fn dated_files(checks: &mut Checks) {
 fn pairs_in(name: &str) -> Vec<(u16, u16)> {
     let file = std::fs::read(checks::sample(name)).expect(name);
     file::read(&file, 512).expect(name).iter().map(|pair| (pair.gap, pair.size)).collect()
+}
+
+/// The specification of a file in samples/.
+fn spec_in(name: &str) -> Spec {
+    spec::read(&std::fs::read(checks::sample(name)).expect(name)).expect(name)
 }
 
 /// The offers of a file in samples/: on each line minute, size, number and budget left.

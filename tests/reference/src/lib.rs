@@ -3,8 +3,9 @@
 //!
 //! Where a number is too large for the literal way there is a second, still plain way (`Reports` for `Minutes`, whole periods
 //! or weeks for a walk, counting for the search of size lists, the delays of each report for the choices of all, a few reports for whole
-//! rounds of two runs, a table for sums). The tests compare the two ways on numbers that both can do.
+//! rounds of two runs, a table for sums, counts of pairs and records for cycles). The tests compare the two ways on numbers that both can do.
 
+pub mod box_plan;
 pub mod cost;
 pub mod cycle;
 pub mod dated;

@@ -1,7 +1,7 @@
 //! Document 01, "Schedules from document 000", and document 02, Req 02: plans, their kinds and their endless runs.
 
 use crate::schedule::Schedule;
-use crate::Refusal;
+use crate::{file, Pair, Refusal};
 
 #[derive(Clone, Copy, Debug, PartialEq, Eq)]
 pub enum Kind {
@@ -44,6 +44,20 @@ impl Plan {
         }
         let rest: u64 = (0..i % self.k).map(|j| self.gap(j)).sum();
         Ok(((i / self.k) * self.minutes_in_round() + rest, self.size(i)))
+    }
+
+    /// The reports of a period "as pairs (gap to the next, size)".
+    pub fn pairs(&self) -> Vec<Pair> {
+        let word = |number: u64| u16::try_from(number).expect("a 2-byte number");
+        (0..self.k).map(|i| Pair { gap: word(self.gap(i)), size: word(self.size(i)) }).collect()
+    }
+
+    /// "A plan written out as a cycle", for `room` lent bytes: "11, then 12 where k is above 512, then 20".
+    pub fn write(&self, room: usize) -> Result<Vec<u8>, Refusal> {
+        if !self.proper() {
+            return Err(11);
+        }
+        file::write(&self.pairs(), room)
     }
 }
 
