@@ -1,6 +1,6 @@
 /*
  * Included before plain.c where it is linked beside the library: the same
- * twenty-four functions under names of their own.
+ * twenty-six functions under names of their own.
  */
 #define maxeltu_verdict plain_verdict
 #define maxeltu_consistency plain_consistency
@@ -8,6 +8,7 @@
 #define maxeltu_max_supply plain_max_supply
 #define maxeltu_test plain_test
 #define maxeltu_even_plan plain_even_plan
+#define maxeltu_box_plan plain_box_plan
 #define maxeltu_report plain_report
 #define maxeltu_last_report plain_last_report
 #define maxeltu_nearest_report plain_nearest_report
@@ -20,6 +21,7 @@
 #define maxeltu_normal_form plain_normal_form
 #define maxeltu_read_cycle plain_read_cycle
 #define maxeltu_write_cycle plain_write_cycle
+#define maxeltu_write_plan plain_write_plan
 #define maxeltu_in_force plain_in_force
 #define maxeltu_make_meter plain_make_meter
 #define maxeltu_offer plain_offer

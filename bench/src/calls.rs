@@ -5,6 +5,7 @@ use reference::Pair;
 type TwoFiles = unsafe extern "C" fn(*const u8, usize, *const u8, usize) -> u32;
 type Test = unsafe extern "C" fn(*const u8, usize, *mut u32, *mut u32, *mut u32, *mut u32, *mut u32) -> u32;
 type EvenPlan = unsafe extern "C" fn(*const u8, usize, *mut u32, *mut u32, *mut u32) -> u32;
+type BoxPlan = unsafe extern "C" fn(*const u8, usize, u32, *mut u32, *mut u32, *mut u32) -> u32;
 type Report = unsafe extern "C" fn(u32, u32, u32, u32, u32, *mut u64, *mut u32) -> u32;
 type ReportAt = unsafe extern "C" fn(u32, u32, u32, u32, u32, *mut u32) -> u32;
 type Between = unsafe extern "C" fn(u32, u32, u32, u32, u32, u32, *mut u32, *mut u64) -> u32;
@@ -16,6 +17,7 @@ type CycleCost = unsafe extern "C" fn(*const u8, usize, *const Pair, usize, u32,
 type NormalForm = unsafe extern "C" fn(*const Pair, usize, *mut Pair, usize, *mut u32) -> u32;
 type ReadCycle = unsafe extern "C" fn(*const u8, usize, *mut Pair, usize, *mut u32) -> u32;
 type WriteCycle = unsafe extern "C" fn(*const Pair, usize, *mut u8, usize, *mut u32) -> u32;
+type WritePlan = unsafe extern "C" fn(u32, u32, u32, u32, *mut u8, usize, *mut u32) -> u32;
 type InForce = unsafe extern "C" fn(*const u8, usize, *const u8, usize, *mut u32) -> u32;
 type MakeMeter = unsafe extern "C" fn(*const u8, usize, *mut Meter) -> u32;
 type Offer = unsafe extern "C" fn(*mut Meter, u32, u32, *mut u32) -> u32;
@@ -34,15 +36,16 @@ impl Meter {
 #[rustfmt::skip]
 macro_rules! declare {
     (
-        $verdict:ident $test:ident $even_plan:ident $report:ident $last_report:ident $nearest_report:ident $between:ident
-        $plan_cost:ident $check_cycle:ident $check_late:ident $shortest_stretch:ident $cycle_cost:ident $normal_form:ident
-        $read_cycle:ident $write_cycle:ident $in_force:ident $make_meter:ident $offer:ident $week_table:ident
-        $calendar_minute:ident $duty_minute:ident
+        $verdict:ident $test:ident $even_plan:ident $box_plan:ident $report:ident $last_report:ident $nearest_report:ident
+        $between:ident $plan_cost:ident $check_cycle:ident $check_late:ident $shortest_stretch:ident $cycle_cost:ident
+        $normal_form:ident $read_cycle:ident $write_cycle:ident $write_plan:ident $in_force:ident $make_meter:ident $offer:ident
+        $week_table:ident $calendar_minute:ident $duty_minute:ident
     ) => {
         extern "C" {
             fn $verdict(spec: *const u8, spec_len: usize, cycle: *const u8, cycle_len: usize) -> u32;
             fn $test(spec: *const u8, spec_len: usize, condition: *mut u32, k: *mut u32, period: *mut u32, total: *mut u32, supply: *mut u32) -> u32;
             fn $even_plan(spec: *const u8, spec_len: usize, k: *mut u32, period: *mut u32, total: *mut u32) -> u32;
+            fn $box_plan(spec: *const u8, spec_len: usize, lateness: u32, k: *mut u32, period: *mut u32, total: *mut u32) -> u32;
             fn $report(kind: u32, k: u32, period: u32, total: u32, i: u32, minute: *mut u64, size: *mut u32) -> u32;
             fn $last_report(kind: u32, k: u32, period: u32, total: u32, minute: u32, number: *mut u32) -> u32;
             fn $nearest_report(kind: u32, k: u32, period: u32, total: u32, minute: u32, number: *mut u32) -> u32;
@@ -55,6 +58,7 @@ macro_rules! declare {
             fn $normal_form(pairs: *const Pair, count: usize, normal: *mut Pair, places: usize, normal_count: *mut u32) -> u32;
             fn $read_cycle(file: *const u8, file_len: usize, pairs: *mut Pair, places: usize, count: *mut u32) -> u32;
             fn $write_cycle(pairs: *const Pair, count: usize, file: *mut u8, room: usize, written: *mut u32) -> u32;
+            fn $write_plan(kind: u32, k: u32, period: u32, total: u32, file: *mut u8, room: usize, written: *mut u32) -> u32;
             fn $in_force(first: *const u8, first_len: usize, second: *const u8, second_len: usize, which: *mut u32) -> u32;
             fn $make_meter(spec: *const u8, spec_len: usize, meter: *mut Meter) -> u32;
             fn $offer(meter: *mut Meter, minute: u32, size: u32, left: *mut u32) -> u32;
@@ -66,22 +70,23 @@ macro_rules! declare {
 }
 
 declare!(
-    maxeltu_verdict maxeltu_test maxeltu_even_plan maxeltu_report maxeltu_last_report maxeltu_nearest_report maxeltu_between
-    maxeltu_plan_cost maxeltu_check_cycle maxeltu_check_late maxeltu_shortest_stretch maxeltu_cycle_cost maxeltu_normal_form
-    maxeltu_read_cycle maxeltu_write_cycle maxeltu_in_force maxeltu_make_meter maxeltu_offer maxeltu_week_table
-    maxeltu_calendar_minute maxeltu_duty_minute
+    maxeltu_verdict maxeltu_test maxeltu_even_plan maxeltu_box_plan maxeltu_report maxeltu_last_report maxeltu_nearest_report
+    maxeltu_between maxeltu_plan_cost maxeltu_check_cycle maxeltu_check_late maxeltu_shortest_stretch maxeltu_cycle_cost
+    maxeltu_normal_form maxeltu_read_cycle maxeltu_write_cycle maxeltu_write_plan maxeltu_in_force maxeltu_make_meter maxeltu_offer
+    maxeltu_week_table maxeltu_calendar_minute maxeltu_duty_minute
 );
 declare!(
-    plain_verdict plain_test plain_even_plan plain_report plain_last_report plain_nearest_report plain_between
-    plain_plan_cost plain_check_cycle plain_check_late plain_shortest_stretch plain_cycle_cost plain_normal_form
-    plain_read_cycle plain_write_cycle plain_in_force plain_make_meter plain_offer plain_week_table
-    plain_calendar_minute plain_duty_minute
+    plain_verdict plain_test plain_even_plan plain_box_plan plain_report plain_last_report plain_nearest_report
+    plain_between plain_plan_cost plain_check_cycle plain_check_late plain_shortest_stretch plain_cycle_cost
+    plain_normal_form plain_read_cycle plain_write_cycle plain_write_plan plain_in_force plain_make_meter plain_offer
+    plain_week_table plain_calendar_minute plain_duty_minute
 );
 
 pub struct Calls {
     verdict: TwoFiles,
     test: Test,
     even_plan: EvenPlan,
+    box_plan: BoxPlan,
     report: Report,
     last_report: ReportAt,
     nearest_report: ReportAt,
@@ -94,6 +99,7 @@ pub struct Calls {
     normal_form: NormalForm,
     read_cycle: ReadCycle,
     write_cycle: WriteCycle,
+    write_plan: WritePlan,
     in_force: InForce,
     make_meter: MakeMeter,
     offer: Offer,
@@ -106,6 +112,7 @@ pub const LIBRARY: Calls = Calls {
     verdict: maxeltu_verdict,
     test: maxeltu_test,
     even_plan: maxeltu_even_plan,
+    box_plan: maxeltu_box_plan,
     report: maxeltu_report,
     last_report: maxeltu_last_report,
     nearest_report: maxeltu_nearest_report,
@@ -118,6 +125,7 @@ pub const LIBRARY: Calls = Calls {
     normal_form: maxeltu_normal_form,
     read_cycle: maxeltu_read_cycle,
     write_cycle: maxeltu_write_cycle,
+    write_plan: maxeltu_write_plan,
     in_force: maxeltu_in_force,
     make_meter: maxeltu_make_meter,
     offer: maxeltu_offer,
@@ -130,6 +138,7 @@ pub const PLAIN_C: Calls = Calls {
     verdict: plain_verdict,
     test: plain_test,
     even_plan: plain_even_plan,
+    box_plan: plain_box_plan,
     report: plain_report,
     last_report: plain_last_report,
     nearest_report: plain_nearest_report,
@@ -142,6 +151,7 @@ pub const PLAIN_C: Calls = Calls {
     normal_form: plain_normal_form,
     read_cycle: plain_read_cycle,
     write_cycle: plain_write_cycle,
+    write_plan: plain_write_plan,
     in_force: plain_in_force,
     make_meter: plain_make_meter,
     offer: plain_offer,
@@ -164,6 +174,13 @@ impl Calls {
     pub fn even_plan(&self, spec: &[u8]) -> u32 {
         let [mut k, mut period, mut total] = [0; 3];
         unsafe { (self.even_plan)(spec.as_ptr(), spec.len(), &mut k, &mut period, &mut total) }
+    }
+
+    /// The answer, and where it is 0 k, period and total, else 0 thrice.
+    pub fn box_plan(&self, spec: &[u8], lateness: u32) -> (u32, [u32; 3]) {
+        let [mut k, mut period, mut total] = [0; 3];
+        let answer = unsafe { (self.box_plan)(spec.as_ptr(), spec.len(), lateness, &mut k, &mut period, &mut total) };
+        (answer, [k, period, total])
     }
 
     pub fn report(&self, kind: u32, [k, period, total]: [u32; 3], i: u32) -> u32 {
@@ -238,6 +255,13 @@ impl Calls {
     pub fn write_cycle(&self, pairs: &[Pair], file: &mut [u8]) -> u32 {
         let mut written = 0;
         unsafe { (self.write_cycle)(pairs.as_ptr(), pairs.len(), file.as_mut_ptr(), file.len(), &mut written) }
+    }
+
+    /// How many bytes the file has, of a proper plan of at most 512 reports in a period, and room enough.
+    pub fn write_plan(&self, kind: u32, [k, period, total]: [u32; 3], file: &mut [u8]) -> u32 {
+        let (mut written, to) = (0, file.as_mut_ptr());
+        assert_eq!(unsafe { (self.write_plan)(kind, k, period, total, to, file.len(), &mut written) }, 0);
+        written
     }
 
     /// The file in force, 1 or 2, or a refusal, whose number is never so small.

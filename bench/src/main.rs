@@ -1,5 +1,6 @@
 //! The same inputs through the library, the plain C version and the literal reference: times and ratios. Never a test.
 
+mod boxplan;
 mod calls;
 mod costs;
 mod dated;
@@ -210,6 +211,7 @@ fn main() {
     );
     cycles();
     plans();
+    boxplan::all();
     reports();
     moments::all();
     costs::all();
