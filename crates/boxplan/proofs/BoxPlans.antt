@@ -2,7 +2,7 @@
 -- better; and 30 is given exactly where none passes. A cycle passes for a lateness exactly where its run obeys what planned minutes must
 -- meet, and the run of one with one gap is a schedule of sizes that repeat at that gap: so what proofs/PairsFit.antt says of these is
 -- said of it.
-use Prim.Native.Nat.{ℕ, ◌%◌, ◌≤◌, ◌<◌}
+use Prim.Native.Nat.{ℕ, ◌-◌, ◌%◌, ◌≤◌, ◌<◌}
 use native.Mathlib.Omega.{arith}
 use native.Mathlib.Nat.{le-mul_of_pos_right, mul-le-mul_right, le_trans, mul-mod_right, mul_comm, mul-div_cancel_left, mod-lt}
 use mathlib.Core.Path.{◌≡◌, refl, sym, ◌∙◌, ap, subst}
@@ -23,7 +23,7 @@ use Rattle.schedule.specs.Rules.{Obeys, TimedObeys}
 use Rattle.lateness.specs.Delays.{EveryDelay}
 use Rattle.lateness.specs.Lateness.{late_demand, lateness_number}
 use Rattle.lateness.specs.PlannedSpec.{planned_spec}
-use Rattle.lateness.proofs.Begins.{begins_0, begins_26, begins_iff}
+use Rattle.lateness.proofs.Begins.{begins_0, begins_26, begins_iff, begins_26_iff}
 use Rattle.lateness.proofs.EverySchedule.{late_planned}
 use Rattle.lateness.proofs.PlannedSpec.{planned_range, planned_rises}
 use Rattle.pairs.specs.declared.Pair.{Pair}
@@ -47,14 +47,16 @@ use Rattle.boxplan.proofs.Search.{loads_fit, fit_loads}
 use Rattle.boxplan.proofs.Cases.{at_none, at_some, begins_planned, begins_stopped}
 use Rattle.boxplan.proofs.PairsFit.{Plans, Fitting, records_at, fitting_iff, shared, fitting_obeys, records_least, obeys_fitting}
 
--- what planned minutes must meet may be planned by, whatever the lateness
-needed : (lateness : ℕ) (given : Option Rate) → rate_limits given ≡ true → (x : Rate) → late_demand lateness given ≡ Some x → 1 ≤ x.records
+-- planned minutes need as many records as the given ones, in no more minutes
+pub planned_demand : (lateness : ℕ) (given : Option Rate) → rate_limits given ≡ true → (x : Rate) → late_demand lateness given ≡ Some x
+    → (1 ≤ x.records) × (x.minutes ≤ 20160)
 unfolding rate_limits late_demand
-needed lateness None limits x e = cc
-needed lateness (Some y) limits x e =
+planned_demand lateness None limits x e = cc
+planned_demand lateness (Some y) limits x e =
     let k = simp (and-eq-true_iff, leb_iff) at limits in
-    let same : y.records ≡ x.records = let h = e in cc in
-    omega arith
+    let records : y.records ≡ x.records = let h = e in cc in
+    let minutes : y.minutes - lateness ≡ x.minutes = let h = e in cc in
+    (omega arith, omega arith)
 
 planned_plans : (spec : Spec) → IsAccepted spec → (lateness : ℕ) → Plans (planned_spec spec lateness)
 unfolding planned_spec
@@ -65,8 +67,18 @@ planned_plans spec accepted lateness =
       size_high = f.size_high;
       range = planned_range spec accepted lateness;
       rises = planned_rises spec accepted lateness;
-      needs = needed lateness spec.demand f.demand;
+      needs = λ x e. (planned_demand lateness spec.demand f.demand x e).0;
     }
+
+-- what is promised of the plan that is given
+pub record BestFor (spec : Spec) (lateness : ℕ) (p : Plan) : Type 0 where
+  pub is_proper : proper p ≡ true
+  pub has_one_gap : OneGapCycle (plan_gap p) (plan_pairs p)
+  pub passes : late_number spec lateness (plan_pairs p) ≡ 0
+  pub obeys : EveryDelay lateness (run p) (TimedObeys spec)
+  pub longest : (g : ℕ) (c : List Pair) → OneGapCycle g c → late_number spec lateness c ≡ 0 → g ≤ plan_gap p
+  pub fewest : (c : List Pair) → OneGapCycle (plan_gap p) c → late_number spec lateness c ≡ 0
+      → (p.count ≤ length c) × (length c ≡ p.count → p.total ≤ round_records c)
 
 -- ---- The plan at an allowed gap at which some number of pairs will do
 module _ (s : Spec) (known : Plans s) (g : ℕ) (allowed : gap_allowed s g ≡ true) (loads : can_load s g ≡ true) where
@@ -206,7 +218,7 @@ module _ (spec : Spec) (lateness : ℕ) (accepted : IsAccepted spec) (few : late
         let ok = allowed planned known g c one obeys in
         ((known.range g ok).0, gap_longest planned known g ok (pairs_least planned known g c one obeys).0)
 
-  -- what is known of the plan at the longest gap, where there is one
+  -- the plan at the longest gap, where there is one
   module _ (some_gap : 0 < box_gap planned) where
     abbrev found : Plan
     found = box_plan_at planned (box_gap planned)
@@ -214,29 +226,26 @@ module _ (spec : Spec) (lateness : ℕ) (accepted : IsAccepted spec) (few : late
     right : (gap_allowed planned (box_gap planned) ≡ true) × (can_load planned (box_gap planned) ≡ true)
     right = gap_right planned some_gap
 
-    found_proper : proper found ≡ true
-    found_proper = at_proper planned known (box_gap planned) right.0 right.1
+    found_gap : plan_gap found ≡ box_gap planned
+    found_gap = at_gap planned known (box_gap planned) right.0 right.1
 
     found_cycle : OneGapCycle (plan_gap found) (plan_pairs found)
     found_cycle = at_cycle planned known (box_gap planned) right.0 right.1
 
-    found_passed : late_number spec lateness (plan_pairs found) ≡ 0
-    found_passed = (passes_planned _ _ found_cycle).1 (at_cycle_obeys planned known (box_gap planned) right.0 right.1)
+    found_passes : late_number spec lateness (plan_pairs found) ≡ 0
+    found_passes = (passes_planned _ _ found_cycle).1 (at_cycle_obeys planned known (box_gap planned) right.0 right.1)
 
-    found_obeys : EveryDelay lateness (run found) (TimedObeys spec)
-    found_obeys = (late_planned spec lateness (run found) accepted).1 (at_obeys planned known (box_gap planned) right.0 right.1)
-
-    found_gap : plan_gap found ≡ box_gap planned
-    found_gap = at_gap planned known (box_gap planned) right.0 right.1
-
-    found_longest : (g : ℕ) (c : List Pair) → OneGapCycle g c → late_number spec lateness c ≡ 0 → g ≤ plan_gap found
-    found_longest g c one e = omega (arith, found_gap, (passes_within g c one e).1)
-
-    found_best : (g : ℕ) (c : List Pair) → OneGapCycle g c → late_number spec lateness c ≡ 0 → g ≡ box_gap planned
-        → (found.count ≤ length c) × (length c ≡ found.count → found.total ≤ round_records c)
-    found_best g c one e same =
-        subst (λ (x : ℕ). ((box_plan_at planned x).count ≤ length c) × (length c ≡ (box_plan_at planned x).count → (box_plan_at planned x).total ≤ round_records c)) same
-        (best_at planned known g c one ((passes_planned g c one).0 e))
+    found_best : BestFor spec lateness found
+    found_best = record {
+      is_proper = at_proper planned known (box_gap planned) right.0 right.1;
+      has_one_gap = found_cycle;
+      passes = found_passes;
+      obeys = (late_planned spec lateness (run found) accepted).1 (at_obeys planned known (box_gap planned) right.0 right.1);
+      longest = λ g c one e. omega (arith, found_gap, (passes_within g c one e).1);
+      fewest = λ c one e.
+          subst (λ (g : ℕ). ((box_plan_at planned g).count ≤ length c) × (length c ≡ (box_plan_at planned g).count → (box_plan_at planned g).total ≤ round_records c)) found_gap
+          (best_at planned known (plan_gap found) c one ((passes_planned (plan_gap found) c one).0 e));
+    }
 
   -- 30 exactly where no cycle with one gap throughout passes
   pub box_plan_refused : (box_plan spec lateness ≡ Err 30) ↔ ((g : ℕ) (c : List Pair) → OneGapCycle g c → ¬ (late_number spec lateness c ≡ 0))
@@ -246,67 +255,44 @@ module _ (spec : Spec) (lateness : ℕ) (accepted : IsAccepted spec) (few : late
         absurd (let h = sym (goes ∙ at_some planned (box_gap planned) (omega (arith, within.0, within.1))) ∙ e in cc),
     λ none.
         ⊎_elim
-        (λ pos. absurd (none _ _ (found_cycle pos) (found_passed pos)))
+        (λ pos. absurd (none _ _ (found_cycle pos) (found_passes pos)))
         (λ zero. goes ∙ at_none planned (box_gap planned) (omega arith))
         (lt_cases 0 (box_gap planned)),
   )
 
--- what is true of the plan at the longest gap is true of the plan that is given
-module _ (spec : Spec) (lateness : ℕ) (p : Plan) (e : box_plan spec lateness ≡ Ok p) where
-  accepted_few : IsAccepted spec × (lateness ≤ 1440)
-  accepted_few = ⊎_elim (λ n. (begins_iff spec lateness).0 n) (λ n. let h = sym (begins_stopped spec lateness n) ∙ e in cc) (none_or (lateness_number spec lateness))
-
-  abbrev planned_by : Spec
-  planned_by = planned_spec spec lateness
-
-  some_gap : (0 < box_gap planned_by) × (box_plan_at planned_by (box_gap planned_by) ≡ p)
-  some_gap =
-      let told = sym (goes spec lateness accepted_few.0 accepted_few.1) ∙ e in
+  -- so what is given is the plan at the longest gap, and no other refusal
+  goes_best : (p : Plan) → box_plan spec lateness ≡ Ok p → BestFor spec lateness p
+  goes_best p e =
+      let told = sym goes ∙ e in
       ⊎_elim
-      (λ pos. (pos, let h = sym (at_some planned_by (box_gap planned_by) pos) ∙ told in cc))
-      (λ zero. let h = sym (at_none planned_by (box_gap planned_by) (omega arith)) ∙ told in cc)
-      (lt_cases 0 (box_gap planned_by))
+      (λ pos. let same : found pos ≡ p = let h = sym (at_some planned (box_gap planned) pos) ∙ told in cc in subst (BestFor spec lateness) same (found_best pos))
+      (λ zero. let h = sym (at_none planned (box_gap planned) (omega arith)) ∙ told in cc)
+      (lt_cases 0 (box_gap planned))
 
-  given : (Claim : Plan → Type 0) → Claim (box_plan_at planned_by (box_gap planned_by)) → Claim p
-  given Claim holds = subst Claim some_gap.1 holds
+  goes_30 : (n : ℕ) → box_plan spec lateness ≡ Err n → n ≡ 30
+  goes_30 n e =
+      let told = sym goes ∙ e in
+      ⊎_elim
+      (λ pos. let h = sym (at_some planned (box_gap planned) pos) ∙ told in cc)
+      (λ zero. let h = sym (at_none planned (box_gap planned) (omega arith)) ∙ told in cc)
+      (lt_cases 0 (box_gap planned))
 
-  pub box_plan_good : (proper p ≡ true) × OneGapCycle (plan_gap p) (plan_pairs p) × (late_number spec lateness (plan_pairs p) ≡ 0)
-  box_plan_good =
-      let ok = accepted_few.0 in
-      let few = accepted_few.1 in
-      given (λ q. (proper q ≡ true) × OneGapCycle (plan_gap q) (plan_pairs q) × (late_number spec lateness (plan_pairs q) ≡ 0))
-      (found_proper spec lateness ok few some_gap.0, found_cycle spec lateness ok few some_gap.0, found_passed spec lateness ok few some_gap.0)
+pub box_plan_best : (spec : Spec) (lateness : ℕ) (p : Plan) → box_plan spec lateness ≡ Ok p → BestFor spec lateness p
+box_plan_best spec lateness p e =
+    ⊎_elim
+    (λ goes. let b = (begins_iff spec lateness).0 goes in goes_best spec lateness b.0 b.1 p e)
+    (λ stops. let h = sym (begins_stopped spec lateness stops) ∙ e in cc)
+    (none_or (lateness_number spec lateness))
 
-  pub box_plan_obeys : EveryDelay lateness (run p) (TimedObeys spec)
-  box_plan_obeys = given (λ q. EveryDelay lateness (run q) (TimedObeys spec)) (found_obeys spec lateness accepted_few.0 accepted_few.1 some_gap.0)
-
-  module _ (g : ℕ) (c : List Pair) (one : OneGapCycle g c) (passes : late_number spec lateness c ≡ 0) where
-    pub box_plan_longest : g ≤ plan_gap p
-    box_plan_longest = given (λ q. g ≤ plan_gap q) (found_longest spec lateness accepted_few.0 accepted_few.1 some_gap.0 g c one passes)
-
-    pub box_plan_fewest : g ≡ plan_gap p → (p.count ≤ length c) × (length c ≡ p.count → p.total ≤ round_records c)
-    box_plan_fewest =
-        given (λ q. g ≡ plan_gap q → (q.count ≤ length c) × (length c ≡ q.count → q.total ≤ round_records c))
-        (λ same.
-        found_best spec lateness accepted_few.0 accepted_few.1 some_gap.0 g c one passes
-        (same ∙ found_gap spec lateness accepted_few.0 accepted_few.1 some_gap.0))
-
--- an accepted specification is refused with 26 exactly where the lateness is above 1,440
-pub box_too_late : (spec : Spec) (lateness : ℕ) → IsAccepted spec → (box_plan spec lateness ≡ Err 26) ↔ (1440 < lateness)
-box_too_late spec lateness accepted = (
+-- 26 exactly for an accepted specification and a lateness above 1,440
+pub box_too_late : (spec : Spec) (lateness : ℕ) → (box_plan spec lateness ≡ Err 26) ↔ (IsAccepted spec × (1440 < lateness))
+box_too_late spec lateness = (
   λ e.
       ⊎_elim
-      (λ late. late)
-      (λ few.
-      let told = sym (goes spec lateness accepted few) ∙ e in
-      let s = planned_spec spec lateness in
-      absurd
-      (⊎_elim
-      (λ pos. let h = sym (at_some s (box_gap s) pos) ∙ told in cc)
-      (λ zero. let h = sym (at_none s (box_gap s) (omega arith)) ∙ told in let z : ◌≡◌ {A = ℕ} 30 26 = cc in omega arith)
-      (lt_cases 0 (box_gap s))))
-      (lt_cases 1440 lateness),
-  λ late. let n = begins_26 spec lateness accepted late in begins_stopped spec lateness (λ z. omega arith) ∙ ap Err n,
+      (λ goes. let b = (begins_iff spec lateness).0 goes in absurd (omega (arith, goes_30 spec lateness b.0 b.1 26 e)))
+      (λ stops. let h = sym (begins_stopped spec lateness stops) ∙ e in (begins_26_iff spec lateness).0 (let same : lateness_number spec lateness ≡ 26 = cc in same))
+      (none_or (lateness_number spec lateness)),
+  λ h. let n = begins_26 spec lateness h.0 h.1 in begins_stopped spec lateness (λ z. omega arith) ∙ ap Err n,
 )
 
 -- Where no gap has an endless list of sizes that obeys, no cycle with one gap passes: reports that are on time are late by no minute.

@@ -41,8 +41,7 @@ use Rattle.feasibility.proofs.Needed.{fourth_needed}
 use Rattle.even.proofs.EvenPlans.{even_plan_accepted, even_plan_obeys, even_plan_longest, even_plan_refused, even_plan_own, even_plan_least}
 use Rattle.even.proofs.ReportZero.{report_0_thinner}
 use Rattle.boxplan.specs.BoxPlan.{box_plan}
-use Rattle.boxplan.specs.OneGapCycles.{plan_gap}
-use Rattle.boxplan.proofs.BoxPlans.{box_plan_good, box_plan_obeys, box_plan_longest, box_plan_fewest, box_plan_refused, box_too_late, no_even_no_box}
+use Rattle.boxplan.proofs.BoxPlans.{box_plan_best, box_plan_refused, box_too_late, no_even_no_box}
 use Rattle.planfile.specs.PlanFile.{plan_pairs, plan_file, file_after}
 use Rattle.planfile.proofs.Written.{plan_written, plan_round, plan_verdict, plan_reads_back}
 use Rattle.planfile.proofs.FileNumbers.{plan_file_numbers}
@@ -162,9 +161,9 @@ module _ (spec : List ℕ) (s : Spec) (p : Plan) (read : read_spec spec ≡ Ok s
 -- and with a box plan's, which is passed on time too
 box_loads : (spec : List ℕ) (s : Spec) (lateness : ℕ) (p : Plan) → read_spec spec ≡ Ok s → box_plan s lateness ≡ Ok p → verdict_of spec (cycle_bytes (plan_pairs p)) ≡ 0
 box_loads spec s lateness p read e =
-    let good = box_plan_good s lateness p e in
-    let few : p.count ≤ 512 = omega (arith, good.1.few, (plan_written p good.0).0) in
-    plan_number spec s p read good.0 few ∙ sym (on_time_same s (plan_pairs p)) ∙ late_less s 0 lateness (plan_pairs p) (omega arith) good.2
+    let best = box_plan_best s lateness p e in
+    let few : p.count ≤ 512 = omega (arith, best.has_one_gap.few, (plan_written p best.is_proper).0) in
+    plan_number spec s p read best.is_proper few ∙ sym (on_time_same s (plan_pairs p)) ∙ late_less s 0 lateness (plan_pairs p) (omega arith) best.passes
 
 report_by_report : (p : Plan) (i : ℕ) → proper p ≡ true → ((cycle_run (plan_pairs p)).size i ≡ (run p).size i) × (minute (cycle_run (plan_pairs p)) i ≡ minute (run p) i)
 report_by_report p i ok = let same = (plan_written p ok).1 in (ap (λ (t : Schedule). t.size i) same, ap (λ (t : Schedule). minute t i) same)
@@ -301,11 +300,11 @@ demands = record {
   plan_file_numbers = plan_file_numbers;
   plan_reads_back = plan_reads_back;
   plan_loads = plan_loads;
-  box_passed = box_plan_good;
-  box_obeys = box_plan_obeys;
+  box_passed = λ s lateness p e. let best = box_plan_best s lateness p e in (best.is_proper, best.has_one_gap, best.passes);
+  box_obeys = λ s lateness p e. (box_plan_best s lateness p e).obeys;
   box_loads = box_loads;
-  box_longest = λ s lateness p e g c one longer passes. absurd (omega (arith, longer, box_plan_longest s lateness p e g c one passes));
-  box_fewest = λ s lateness p e c one passes. box_plan_fewest s lateness p e (plan_gap p) c one passes refl;
+  box_longest = λ s lateness p e g c one longer passes. absurd (omega (arith, longer, (box_plan_best s lateness p e).longest g c one passes));
+  box_fewest = λ s lateness p e. (box_plan_best s lateness p e).fewest;
   box_refused = box_plan_refused;
   box_too_late = box_too_late;
   no_even_no_box = no_even_no_box;

@@ -369,11 +369,11 @@ pub record Demands : Type 0 where
       → ¬ (late_number s lateness c ≡ 0)
   pub box_fewest : (s : Spec) (lateness : ℕ) (p : Plan) → box_plan s lateness ≡ Ok p → (c : List Pair) → OneGapCycle (plan_gap p) c → late_number s lateness c ≡ 0
       → (p.count ≤ length c) × (length c ≡ p.count → p.total ≤ round_records c)
-  -- 30 is given exactly when every cycle of 1 to 512 pairs with one gap throughout fails, 26 exactly for a J above 1,440, and where the even plan is
-  -- refused, so is the box plan
+  -- 30 is given exactly when every cycle of 1 to 512 pairs with one gap throughout fails, 26 exactly to an accepted specification with a J above
+  -- 1,440, and where the even plan is refused, so is the box plan
   pub box_refused : (s : Spec) (lateness : ℕ) → IsAccepted s → lateness ≤ 1_440
       → (box_plan s lateness ≡ Err 30) ↔ ((g : ℕ) (c : List Pair) → OneGapCycle g c → ¬ (late_number s lateness c ≡ 0))
-  pub box_too_late : (s : Spec) (lateness : ℕ) → IsAccepted s → (box_plan s lateness ≡ Err 26) ↔ (1_440 < lateness)
+  pub box_too_late : (s : Spec) (lateness : ℕ) → (box_plan s lateness ≡ Err 26) ↔ (IsAccepted s × (1_440 < lateness))
   pub no_even_no_box : (s : Spec) (lateness : ℕ) → IsAccepted s → lateness ≤ 1_440 → even_plan s ≡ Err 10 → box_plan s lateness ≡ Err 30
   -- Run on duty minutes (document 02, Req 11), every schedule that obeys, so every cycle that is passed, still holds at most B in any R calendar
   -- minutes and keeps smin there; and so does every plan that the test passed, and every even plan.
