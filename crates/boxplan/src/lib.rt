@@ -1,7 +1,7 @@
 // The box plan: the longest gap at which a cycle of 1 to 512 pairs with that one gap throughout passes the check of `cycle`, with reports that may
 // be late; there the fewest pairs, and of those the fewest records. Refusals 26 and 30, after a specification's own. Here are the arithmetic
 // that says how many pairs will do at a gap, and the search for gap and pairs over what planned minutes must meet (`lateness`). The sizes
-// themselves are crate `plan`'s, and the jump over gaps at which as many pairs will do is `even`'s.
+// themselves are crate `plan`'s, and the jump over gaps that need not be tried is `even`'s.
 #![tactic(auto)]
 
 ghost use Rattle.std.specs.Prelude.{◌≡◌, ◌≤◌, IfSome};
@@ -57,7 +57,7 @@ fn pairs_fit(spec: Spec, m: NonZeroU16, n: u16, q: u16) -> bool
     (total <= u32::from(q) * u32::from(spec.dmax)) & supply_holds(spec.supply, n, q, total)
 }
 
-// The fewest pairs that will do.
+// The fewest pairs that will do there, if any number of 1 to 512 will.
 #[tactic(auto, using(numbers::proofs::Firsts::first_from, numbers::proofs::Firsts::first_most))]
 fn fewest_pairs(spec: Spec, m: NonZeroU16, n: u16) -> Option<u16>
     ensures number { pairs_number result ≡ first (pairs_fit spec (non_zero_u16_get m) n) 512 1 }
