@@ -197,7 +197,7 @@ module _ (spec : Spec) (lateness : ℕ) (ps : List Pair) where
   )
 
   -- only an accepted specification passes a cycle, only for a lateness of at most 1,440, and only a cycle of 1 to 512 pairs
-  passed_late : late_number spec lateness ps ≡ 0 → IsAccepted spec × (lateness ≤ 1440) × (1 ≤ length ps) × (length ps ≤ 512)
+  pub passed_late : late_number spec lateness ps ≡ 0 → IsAccepted spec × (lateness ≤ 1440) × (1 ≤ length ps) × (length ps ≤ 512)
   unfolding late_cycle_number
   passed_late e =
       ⊎_elim

@@ -7,9 +7,11 @@ pub mod ShownRows
 pub mod Shown
 pub mod SentBack
 pub mod Starts
+pub mod FarthestOut
 pub mod Steps
 pub mod CyclesPassed
 pub mod Rounds
 pub mod Numbers
 pub mod Planned
+pub mod CycleMargins
 pub mod LatePassed

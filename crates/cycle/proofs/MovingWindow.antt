@@ -2,7 +2,7 @@
 -- once it reaches v minutes it holds what the v minutes from its first report hold.
 use Prim.Native.Nat.{ℕ, ◌+◌, ◌-◌, ◌*◌, ◌≤◌, ◌<◌}
 use native.Mathlib.Omega.{arith}
-use mathlib.Core.Path.{◌≡◌, sym, ◌∙◌, ap}
+use mathlib.Core.Path.{◌≡◌, refl, sym, ◌∙◌, ap}
 use mathlib.Core.Logic.{◌↔◌, ⊎_elim}
 use mathlib.Core.List.{List}
 use lib.ListN.{length}
@@ -12,14 +12,16 @@ use Rattle.pairs.specs.declared.Pair.{Pair}
 use Rattle.schedule.specs.Schedules.{Schedule, sum, minute, stretch}
 use Rattle.schedule.proofs.Sums.{sum_more, sum_add, block}
 use Rattle.schedule.proofs.Stretches.{stretch_block}
-use Rattle.schedule.proofs.Before.{minute_more, minute_mono, minute_least, minute_iff}
+use Rattle.schedule.proofs.Before.{minute_more, minute_mono, minute_least, minute_iff, stretch_after}
 use Rattle.schedule.proofs.Repeats.{minute_again}
 use Rattle.cycle.specs.declared.windows.Parts.{Parts}
-use Rattle.cycle.specs.declared.stretches.Rule.{Rule}
+use Rattle.cycle.specs.declared.stretches.Side.{Side}
+use Rattle.cycle.specs.declared.stretches.Side.TheVariants.{Fullest, Thinnest}
 use Rattle.cycle.specs.declared.windows.Window.{Window}
 use Rattle.cycle.specs.Cycles.{cycle_run, round}
+use Rattle.cycle.specs.Margins.{begins}
 use Rattle.cycle.specs.declared.windows.Measure.{Measure}
-use Rattle.cycle.specs.Windows.{pairs_in, run_in, Walkable, IsReport, IsParts, Spans, with_report, without_report, rule_passes}
+use Rattle.cycle.specs.Windows.{pairs_in, run_in, Walkable, IsReport, IsParts, Spans, with_report, without_report, walked, seen}
 use Rattle.cycle.proofs.Chunks.{length_pairs_in}
 use Rattle.cycle.proofs.Runs.{gap_again}
 use Rattle.cycle.proofs.Rounds.{parts_add}
@@ -120,12 +122,18 @@ module _ (ps : List Pair) (ok : Walkable ps) (m : ℕ) {x : Parts} (parts : IsPa
   held_here : x.records + w.records ≡ stretch (cycle_run ps) (minute (cycle_run ps) w.first) m
   held_here = rw (parts_add ps ok.later m x parts (minute (cycle_run ps) w.first), spans_stretch (cycle_run ps) x.rest ok.later h full)
 
-  pub passes_here : (rule : Rule) {y : Pair} → IsReport (cycle_run ps) w.first y
-      → rule_passes rule (x.records + w.records) y.size ≡ rule_passes rule (stretch (cycle_run ps) (minute (cycle_run ps) w.first) m) ((cycle_run ps).size w.first)
-  passes_here rule r = rw (held_here, r.size)
-
   pub first_there : w.first < w.past
   first_there = spans_some (cycle_run ps) x.rest ok.later h parts.some full
+
+-- and so the stretch is seen that starts with the window's first report, or one minute after it
+seen_at : (s : Schedule) → ((i : ℕ) → 1 ≤ s.gap i) → (side : Side) (minutes i : ℕ) → seen side (stretch s (minute s i) (walked side minutes)) (s.size i) ≡ stretch s (begins side s i) minutes
+seen_at s later Fullest minutes i = refl
+seen_at s later Thinnest minutes i = omega (arith, stretch_after s later i minutes)
+
+pub seen_here : (ps : List Pair) → Walkable ps → (side : Side) (minutes : ℕ) {x : Parts} → IsParts ps (walked side minutes) x → {w : Window} → Spans (cycle_run ps) x.rest w → x.rest ≤ w.minutes
+    → {y : Pair} → IsReport (cycle_run ps) w.first y → seen side (x.records + w.records) y.size ≡ stretch (cycle_run ps) (begins side (cycle_run ps) w.first) minutes
+seen_here ps ok side minutes parts h full r =
+    rw (held_here ps ok (walked side minutes) parts h full, r.size) (seen_at (cycle_run ps) ok.later side minutes _)
 
 -- a window that is filled from a start in the first round, of a cycle that is cut into pairs
 pub record Filled (ps : List Pair) (w : Window) : Type 0 where

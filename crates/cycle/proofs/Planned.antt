@@ -4,9 +4,10 @@ use native.Mathlib.Omega.{arith}
 use mathlib.Core.Path.{◌≡◌, refl, sym, ◌∙◌}
 use mathlib.Core.Logic.{⊎_elim}
 use mathlib.Core.List.{List}
-use mathlib.Core.Bool.{Bool, true, false, and-eq-true_iff}
+use mathlib.Core.Bool.{true, and-eq-true_iff}
 use lib.ListN.{length}
 use Rattle.std.specs.Prelude.{Option, None, Some, Result, Ok, Err}
+use Rattle.std.proofs.lemmas.Bool.{false_from_ne_true}
 use Rattle.numbers.proofs.All.{all_same}
 use Rattle.spec.specs.declared.Rate.{Rate}
 use Rattle.spec.specs.declared.Spec.{Spec}
@@ -18,6 +19,7 @@ use Rattle.lateness.specs.PlannedSpec.{planned_spec, planned_for}
 use Rattle.lateness.proofs.Begins.{begins_refused, begins_0, begins_iff, was_planned, was_refused}
 use Rattle.lateness.proofs.PlannedSpec.{near_iff, planned_gap, gap_on_time, supply_on_time, demand_on_time}
 use Rattle.pairs.specs.declared.Pair.{Pair}
+use Rattle.cycle.specs.declared.stretches.Side.TheVariants.{Fullest}
 use Rattle.cycle.specs.Cycles.{pair_gap}
 use Rattle.cycle.specs.Check.{gaps_allowed, sizes_allowed, cycle_number, check_number, check_file_number}
 use Rattle.cycle.specs.LateCheck.{late_gaps_allowed, late_cycle_number, late_number, late_file_number}
@@ -25,21 +27,14 @@ use Rattle.cycle.specs.Windows.{SomeMinutes, Judges}
 use Rattle.cycle.proofs.Numbers.{gets_refused, gets_cycle, late_goes_on, late_stops}
 
 -- an accepted specification can be judged by
-some_minutes : (rate : Option Rate) → rate_limits rate ≡ true → SomeMinutes rate
+some_minutes : (rate : Option Rate) → rate_limits rate ≡ true → SomeMinutes Fullest rate
 unfolding rate_limits
 some_minutes None h = tt
 some_minutes (Some x) h = let k = simp (and-eq-true_iff, leb_iff) at h in omega arith
 
-not_allowed : (spec : Spec) (g : ℕ) → ¬ (gap_allowed spec g ≡ true) → gap_allowed spec g ≡ false
-not_allowed spec g h = pick (gap_allowed spec g) refl
-  where
-    pick : (b : Bool) → gap_allowed spec g ≡ b → b ≡ false
-    pick true e = absurd (h e)
-    pick false e = refl
-
 pub accepted_judges : (spec : Spec) → IsAccepted spec → Judges spec
 accepted_judges spec accepted = record {
-  gaps = not_allowed spec 0 (λ e. omega (arith, gap_allowed_pos spec 0 accepted e));
+  gaps = false_from_ne_true (gap_allowed spec 0) (λ e. omega (arith, gap_allowed_pos spec 0 accepted e));
   supply = some_minutes spec.supply (facts spec accepted).supply;
 }
 
@@ -50,7 +45,7 @@ module _ (spec : Spec) (lateness : ℕ) (accepted : IsAccepted spec) where
   planned_number ps =
       rw (all_same (λ j. late_gap_allowed spec lateness (pair_gap ps j)) (λ j. gap_allowed (planned_spec spec lateness) (pair_gap ps j)) (length ps) (λ j. planned_gap spec accepted lateness (pair_gap ps j)))
 
-  longer : (rate : Option Rate) → rate_limits rate ≡ true → SomeMinutes (late_supply lateness rate)
+  longer : (rate : Option Rate) → rate_limits rate ≡ true → SomeMinutes Fullest (late_supply lateness rate)
   unfolding late_supply
   longer None h = tt
   longer (Some x) h = let k : 1 ≤ x.minutes = some_minutes (Some x) h in omega arith
@@ -59,7 +54,7 @@ module _ (spec : Spec) (lateness : ℕ) (accepted : IsAccepted spec) where
   pub planned_judges : Judges (planned_spec spec lateness)
   unfolding planned_spec
   planned_judges = record {
-    gaps = not_allowed (planned_spec spec lateness) 0
+    gaps = false_from_ne_true (gap_allowed (planned_spec spec lateness) 0)
         (λ e. omega (arith, gap_allowed_pos spec 0 accepted ((near_iff spec lateness 0).0 (planned_gap spec accepted lateness 0 ∙ e) 0 (omega arith, omega arith))));
     supply = longer spec.supply (facts spec accepted).supply;
   }

@@ -2,6 +2,7 @@
 use Prim.Native.Nat.{ℕ, ◌≤◌}
 use native.Mathlib.Omega.{arith}
 use mathlib.Core.Path.{◌≡◌, refl}
+use mathlib.Core.Logic.{◌⊎◌, inl, inr}
 use mathlib.Core.List.{List}
 use mathlib.Core.Bool.{Bool, true, false}
 use lib.ListN.{length}
@@ -12,7 +13,7 @@ use Rattle.pairs.specs.declared.Pair.{Pair}
 use Rattle.pairs.specs.Pairs.{count_in}
 use Rattle.pairs.proofs.Counts.{count_in_true}
 use Rattle.cycle.specs.Cycles.{cycle_run}
-use Rattle.cycle.specs.Check.{gaps_allowed, first_refusal}
+use Rattle.cycle.specs.Check.{gaps_allowed, sizes_allowed, supply_kept, demand_met, first_refusal, shape_number, cycle_number}
 use Rattle.cycle.specs.Windows.{Judges, Walkable}
 use Rattle.cycle.proofs.Runs.{gaps_right}
 
@@ -65,6 +66,43 @@ said true true true false e = record { counted = λ h. refl; is_0 = no 15 0 (ome
 said true true false d e = record { counted = λ h. refl; is_0 = no 14 0 (omega arith); is_13 = no 14 13 (omega arith); is_14 = λ h. (refl, refl); is_15 = no 14 15 (omega arith); is_16 = no 14 16 (omega arith) }
 said true false c d e = record { counted = λ h. refl; is_0 = no 13 0 (omega arith); is_13 = λ h. refl; is_14 = no 13 14 (omega arith); is_15 = no 13 15 (omega arith); is_16 = no 13 16 (omega arith) }
 said false b c d e = record { counted = λ h. absurd (omega arith); is_0 = no 12 0 (omega arith); is_13 = no 12 13 (omega arith); is_14 = no 12 14 (omega arith); is_15 = no 12 15 (omega arith); is_16 = no 12 16 (omega arith) }
+
+-- 12, 13 or 14 is told before the stretches are looked at
+first_told : (a b c d e : Bool) → ¬ (first_refusal a b c true true ≡ 0) → first_refusal a b c d e ≡ first_refusal a b c true true
+unfolding first_refusal
+first_told true true true d e h = absurd (h refl)
+first_told true true false d e h = refl
+first_told true false c d e h = refl
+first_told false b c d e h = refl
+
+module _ (spec : Spec) (ps : List Pair) where
+  pub shape_told : ¬ (shape_number spec ps ≡ 0) → cycle_number spec ps ≡ shape_number spec ps
+  unfolding shape_number cycle_number
+  shape_told h = first_told (count_in (length ps)) (gaps_allowed spec ps) (sizes_allowed spec ps) _ _ h
+
+  pub shape_most : shape_number spec ps ≤ 14
+  unfolding shape_number first_refusal
+  shape_most = pick (count_in (length ps)) (gaps_allowed spec ps) (sizes_allowed spec ps)
+    where
+      pick : (a b c : Bool) → first_refusal a b c true true ≤ 14
+      pick true true true = omega arith
+      pick true true false = omega arith
+      pick true false c = omega arith
+      pick false b c = omega arith
+
+  pub shaped : shape_number spec ps ≡ 0 → (count_in (length ps) ≡ true) × (gaps_allowed spec ps ≡ true) × (sizes_allowed spec ps ≡ true)
+  unfolding shape_number
+  shaped e = let t = (said (count_in (length ps)) (gaps_allowed spec ps) (sizes_allowed spec ps) true true).is_0 e in (t.0, t.1, t.2)
+
+  -- and else the number is that of a stretch, or none
+  pub shape_after : shape_number spec ps ≡ 0 → (cycle_number spec ps ≡ 0) ⊎ ((15 ≤ cycle_number spec ps) × (cycle_number spec ps ≤ 16))
+  unfolding cycle_number first_refusal
+  shape_after e = let t = shaped e in rw (t.0, t.1, t.2) (pick (supply_kept spec.supply ps) (demand_met spec.demand ps))
+    where
+      pick : (d e : Bool) → (first_refusal true true true d e ≡ 0) ⊎ ((15 ≤ first_refusal true true true d e) × (first_refusal true true true d e ≤ 16))
+      pick true true = inl refl
+      pick true false = inr (omega arith, omega arith)
+      pick false e = inr (omega arith, omega arith)
 
 -- it is none of the numbers before 12 nor after 16, but 0
 pub first_few : (a b c d e : Bool) → first_refusal a b c d e ≤ 16

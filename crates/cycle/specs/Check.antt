@@ -34,6 +34,10 @@ demand_met (Some x) ps = all (λ a. leb x.records (stretch (cycle_run ps) a x.mi
 unfoldable pub first_refusal : (count gaps sizes supply demand : Bool) → ℕ
 first_refusal count gaps sizes supply demand = cond count (cond gaps (cond sizes (cond supply (cond demand 0 16) 15) 14) 13) 12
 
+-- 12, 13 or 14 alone
+unfoldable pub shape_number : Spec → List Pair → ℕ
+shape_number spec ps = first_refusal (count_in (length ps)) (gaps_allowed spec ps) (sizes_allowed spec ps) true true
+
 unfoldable pub cycle_number : Spec → List Pair → ℕ
 cycle_number spec ps =
     first_refusal (count_in (length ps)) (gaps_allowed spec ps) (sizes_allowed spec ps) (supply_kept spec.supply ps) (demand_met spec.demand ps)

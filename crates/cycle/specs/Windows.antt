@@ -1,6 +1,6 @@
--- What the inner functions of the check say of one another: a window of neighbouring reports that moves over the endless run. None of it
+-- What the inner functions of the check and of the margins say of one another: a window of neighbouring reports that moves over the endless run. None of it
 -- stands in the contract of a function that others call.
-use Rattle.std.specs.Prelude.{ℕ, ◌+◌, ◌-◌, ◌*◌, ◌≤◌, ◌<◌, ◌≡◌, Bool, false, List, map, leb, length, get_or, Option, None, Some}
+use Rattle.std.specs.Prelude.{ℕ, ◌+◌, ◌-◌, ◌*◌, ◌≤◌, ◌<◌, ◌≡◌, Bool, false, cond, List, map, leb, length, get_or, Option, None, Some}
 use Rattle.numbers.specs.Numbers.{all}
 use Rattle.spec.specs.declared.Rate.{Rate}
 use Rattle.spec.specs.declared.Spec.{Spec}
@@ -12,20 +12,35 @@ use Rattle.cycle.specs.declared.windows.Measure.{Measure}
 use Rattle.cycle.specs.declared.windows.Measure.TheVariants.{Minutes, Records}
 use Rattle.cycle.specs.declared.windows.Parts.{Parts}
 use Rattle.cycle.specs.declared.windows.Round.{Round}
-use Rattle.cycle.specs.declared.stretches.Rule.{Rule}
-use Rattle.cycle.specs.declared.stretches.Rule.TheVariants.{AtMost, AtLeast}
+use Rattle.cycle.specs.declared.stretches.Look.{Look}
+use Rattle.cycle.specs.declared.stretches.Side.{Side}
+use Rattle.cycle.specs.declared.stretches.Side.TheVariants.{Fullest, Thinnest}
+use Rattle.cycle.specs.declared.stretches.Walk.{Walk}
+use Rattle.cycle.specs.declared.margins.Margin.{Margin}
 use Rattle.cycle.specs.declared.windows.Window.{Window}
 use Rattle.cycle.specs.Cycles.{cycle_run, round, round_records}
+use Rattle.cycle.specs.Margins.{begins, Within}
+
+-- How many minutes from a report on are walked over to see a stretch: the fullest start with the report, the thinnest one minute after it. And what
+-- the stretch holds of their records: the thinnest all but the report's.
+abbrev pub walked : Side → ℕ → ℕ
+walked Fullest minutes = minutes
+walked Thinnest minutes = minutes + 1
+
+abbrev pub seen : Side → (records size : ℕ) → ℕ
+seen Fullest records size = records
+seen Thinnest records size = records - size
+
+-- that is a minute at least
+abbrev pub SomeMinutes : Side → Option Rate → Type 0
+SomeMinutes side None = Unit {0}
+SomeMinutes side (Some x) = 1 ≤ walked side x.minutes
 
 -- What 12 to 16 can be judged by: no gap that is allowed is 0, and R minutes are a minute at least. An accepted specification is of this
 -- kind, and so is what planned minutes must meet.
-abbrev pub SomeMinutes : Option Rate → Type 0
-SomeMinutes None = Unit {0}
-SomeMinutes (Some x) = 1 ≤ x.minutes
-
 pub record Judges (spec : Spec) : Type 0 where
   pub gaps : gap_allowed spec 0 ≡ false
-  pub supply : SomeMinutes spec.supply
+  pub supply : SomeMinutes Fullest spec.supply
 
 -- the endless run of the pairs that a flat list holds
 abbrev pub run_of : List ℕ → Schedule
@@ -90,12 +105,38 @@ with_report w x = record { first = w.first; past = w.past + 1; minutes = w.minut
 abbrev pub without_report : Window → Pair → Window
 without_report w x = record { first = w.first + 1; past = w.past; minutes = w.minutes - x.gap; records = w.records - x.size }
 
--- What a rule asks of minutes that start with a report of the given size and hold so many records. AtMost: they hold at most b.
--- AtLeast: the minutes after the first of them hold at least l.
-abbrev pub rule_passes : Rule → ℕ → ℕ → Bool
-rule_passes (AtMost b) held size = leb held b
-rule_passes (AtLeast l) held size = leb (l + size) held
+-- so many records go no farther than others
+abbrev pub within : Side → (records limit : ℕ) → Bool
+within Fullest records limit = leb records limit
+within Thinnest records limit = leb limit records
 
--- the rule passes at each report of one round, for the w minutes that start there
-unfoldable pub starts_pass : Rule → ℕ → List Pair → Bool
-starts_pass rule w ps = all (λ i. rule_passes rule (stretch (cycle_run ps) (minute (cycle_run ps) i) w) ((cycle_run ps).size i)) (length ps)
+-- the parts of a walk are those of the minutes that it goes over
+abbrev pub IsWalk : List Pair → Walk → Type 0
+IsWalk ps walk = IsParts ps (walked walk.side walk.minutes) walk.parts
+
+-- what is seen of the stretch at report i, and the window that starts with the next report
+pub record Looks (s : Schedule) (walk : Walk) (i : ℕ) (look : Look) : Type 0 where
+  pub records : look.records ≡ stretch s (begins walk.side s i) walk.minutes
+  pub first : look.next.first ≡ i + 1
+  pub spans : Spans s walk.parts.rest look.next
+
+-- the stretches, one to each report of one round, are within what the rate asks
+unfoldable pub starts_pass : Side → Rate → List Pair → Bool
+starts_pass side x ps = all (λ i. within side (stretch (cycle_run ps) (begins side (cycle_run ps) i) x.minutes) x.records) (length ps)
+
+-- the new margin, where it is farther out
+abbrev pub farther : Side → Option Margin → Margin → Option Margin
+farther side None new = Some new
+farther side (Some best) new = cond (within side new.records best.records) (Some best) (Some new)
+
+-- of the stretches of so many minutes at the first k reports: the farthest out and, of these, the lowest number
+pub record Farthest (side : Side) (s : Schedule) (minutes k : ℕ) (m : Margin) : Type 0 where
+  pub holds : stretch s (begins side s m.report) minutes ≡ m.records
+  pub passed : m.report < k
+  pub farthest : (i : ℕ) → i < k → Within side (stretch s (begins side s i) minutes) m.records
+  pub lowest_one : (i : ℕ) → i < k → stretch s (begins side s i) minutes ≡ m.records → m.report ≤ i
+
+-- or that there are none yet
+abbrev pub FarthestOf : Side → Schedule → (minutes k : ℕ) → Option Margin → Type 0
+FarthestOf side s minutes k None = k ≡ 0
+FarthestOf side s minutes k (Some m) = Farthest side s minutes k m

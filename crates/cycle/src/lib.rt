@@ -2,11 +2,12 @@
 // the endless repetition with two ends that only go forward, and counts whole rounds by a product, so its work is linear in the
 // number of pairs however short a round is (`stretches`). No pair is written anywhere: the stretches lie on the one round that is lent.
 // A cycle whose reports may be late (26 after 24) gets the same check, against the specification that its planned minutes must meet (the
-// crate `lateness`). With a 15 or a 16 of the check on time goes the shortest stretch that shows it (`shortest`). What pairs are is the crate
-// `pairs`', their file another's; the C calls over a lent list of pairs, which unpack it and call `check_late` or `shortest_stretch`, are
-// exported by `maxeltu`.
+// crate `lateness`). With a 15 or a 16 of the check on time goes the shortest stretch that shows it (`shortest`). How close a cycle comes is told by
+// `margins`. What pairs are is the crate `pairs`', their file another's; the C calls over a lent list of pairs, which unpack it and call
+// `check_late`, `shortest_stretch` or `margins_of`, are exported by `maxeltu`.
 #![tactic(auto)]
 
+pub mod margins;
 mod shortest;
 mod stretches;
 mod windows;
@@ -15,7 +16,7 @@ ghost use Rattle.std.specs.Prelude.{◌≡◌};
 ghost use Rattle.spec.specs.File.{read_spec};
 ghost use Rattle.spec.specs.Refusals.{answer_number};
 ghost use Rattle.pairs.specs.Pairs.{pairs_of};
-ghost use Rattle.cycle.specs.Check.{gaps_allowed, sizes_allowed, cycle_number, check_number};
+ghost use Rattle.cycle.specs.Check.{gaps_allowed, sizes_allowed, shape_number, cycle_number, check_number};
 ghost use Rattle.cycle.specs.LateCheck.{late_number, late_file_number};
 ghost use Rattle.cycle.specs.Shortest.{shortest_stretch};
 ghost use Rattle.cycle.specs.Windows.{pairs_in, Judges};
@@ -38,11 +39,10 @@ fn sizes_allowed(spec: Spec, pairs: &[[u16; 2]]) -> bool
     pairs.iter().all(|&[_, size]| spec.allows_size(size))
 }
 
-// The refusal 12 to 16, if any, by rules that ask for no gap of 0 and no stretch of 0 minutes.
-#[tactic(auto, using(crate::proofs::Chunks::length_pairs_in), unfolding(crate::specs::Check::cycle_number, crate::specs::Check::first_refusal))]
-fn check_pairs(spec: Spec, pairs: &[[u16; 2]]) -> Result<(), Refusal>
-    requires { Judges spec }
-    ensures { answer_number result ≡ cycle_number spec (pairs_in Minutes pairs.now) }
+// The refusal 12 to 14, if any: where there is none, stretches may be laid over the pairs.
+#[tactic(auto, using(crate::proofs::Chunks::length_pairs_in), unfolding(crate::specs::Check::shape_number, crate::specs::Check::first_refusal))]
+pub(crate) fn check_shape(spec: Spec, pairs: &[[u16; 2]]) -> Result<(), Refusal>
+    ensures { answer_number result ≡ shape_number spec (pairs_in Minutes pairs.now) }
 {
     if !pairs::count_in(pairs.len()) {
         return Err(Refusal::Count);
@@ -53,6 +53,15 @@ fn check_pairs(spec: Spec, pairs: &[[u16; 2]]) -> Result<(), Refusal>
     if !sizes_allowed(spec, pairs) {
         return Err(Refusal::Size);
     }
+    Ok(())
+}
+
+// The refusal 12 to 16, if any, by rules that ask for no gap of 0 and no stretch of 0 minutes.
+fn check_pairs(spec: Spec, pairs: &[[u16; 2]]) -> Result<(), Refusal>
+    requires { Judges spec }
+    ensures { answer_number result ≡ cycle_number spec (pairs_in Minutes pairs.now) }
+{
+    check_shape(spec, pairs)?;
     let cycle = Cycle {
         pairs,
         by: Measure::Minutes,
