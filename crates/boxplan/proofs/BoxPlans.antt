@@ -269,7 +269,7 @@ module _ (spec : Spec) (lateness : ℕ) (accepted : IsAccepted spec) (few : late
       (λ zero. let h = sym (at_none planned (box_gap planned) (omega arith)) ∙ told in cc)
       (lt_cases 0 (box_gap planned))
 
-  goes_30 : (n : ℕ) → box_plan spec lateness ≡ Err n → n ≡ 30
+  pub goes_30 : (n : ℕ) → box_plan spec lateness ≡ Err n → n ≡ 30
   goes_30 n e =
       let told = sym goes ∙ e in
       ⊎_elim

@@ -18,11 +18,11 @@ use Rattle.schedule.proofs.Before.{reports_before, minute_none, minute_least, mi
 
 -- the greatest of 0, .., n that passes, where 0 does
 module _ (passes : ℕ → Bool) (some : passes 0 ≡ true) where
-  record Greatest (n g : ℕ) : Type 0 where
-    passed : passes g ≡ true
-    most : (i : ℕ) → i ≤ n → passes i ≡ true → i ≤ g
+  pub record Greatest (n g : ℕ) : Type 0 where
+    pub passed : passes g ≡ true
+    pub most : (i : ℕ) → i ≤ n → passes i ≡ true → i ≤ g
 
-  greatest_is : (n : ℕ) → Greatest n (greatest passes n)
+  pub greatest_is : (n : ℕ) → Greatest n (greatest passes n)
   unfolding greatest
   greatest_is zero = record { passed = some; most = λ i h e. h }
   greatest_is (suc n) = top (passes (suc n)) refl (greatest_is n)
@@ -37,6 +37,16 @@ module _ (passes : ℕ → Bool) (some : passes 0 ≡ true) where
             (λ q. ih.most i q t)
             (lt_cases n i);
       }
+
+-- and where none does it is 0
+pub greatest_none : (passes : ℕ → Bool) → ((i : ℕ) → passes i ≡ false) → (n : ℕ) → greatest passes n ≡ 0
+unfolding greatest
+greatest_none passes none zero = refl
+greatest_none passes none (suc n) = top (passes (suc n)) (none (suc n)) (greatest_none passes none n)
+  where
+    top : (b : Bool) → b ≡ false → greatest passes n ≡ 0 → ◌≡◌ {A = ℕ} (elim b [ true ↦ suc n | false ↦ greatest passes n ]) 0
+    top true e ih = absurd (let z : ◌≡◌ {A = ℕ} 0 1 = cc in omega arith)
+    top false e ih = ih
 
 -- the first of 0, .., n at which f is least
 module _ (f : ℕ → ℕ) where

@@ -1,0 +1,2 @@
+pub mod Search
+pub mod Tolerance
