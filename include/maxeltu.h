@@ -15,7 +15,8 @@
  *    answers MAXELTU_SPEC_MAP, _LENGTH, _LIMITS, _ORDER or _RANGES (1 to 4 or
  *    24, in that order) before anything else.
  *  - What a pointer parameter is called to hand back is written only where the
- *    answer is 0, `condition` only where it is MAXELTU_INCONSISTENT, `first` and
+ *    answer is 0, of the margins only for a rate that the specification has,
+ *    `condition` only where it is MAXELTU_INCONSISTENT, `first` and
  *    `reports` of a shortest stretch only where it is MAXELTU_TOO_FULL or _TOO_THIN,
  *    and `left` after every offer to a meter with a supply rate, refused ones too.
  *    In every other case the place behind it keeps what it held.
@@ -27,8 +28,8 @@
  *  - The length of a list or of bytes that is handed in is a size_t, as C counts
  *    them, and any length may be handed in. Every number that is handed out is
  *    a uint32_t (a minute of a report or of the calendar, the records between two
- *    minutes, and a bill, a uint64_t; the length of a part, which is handed in
- *    again, a size_t), also the count of pairs that were read and
+ *    minutes or of a margin, and a bill, a uint64_t; the length of a part, which is
+ *    handed in again, a size_t), also the count of pairs that were read and
  *    the length of a file that was written: these are at most 512 and 2562, and
  *    callers have one type for all of them.
  *  - The places behind two pointers of one call must not overlap, unless the
@@ -37,12 +38,13 @@
  *    (what a meter has accepted stands in the caller's struct): calls from
  *    several threads at once are fine as long as they share no place that one of
  *    them writes. So one meter belongs to one thread at a time.
- *  - A call that checks, bills, reads or writes a cycle, or writes a plan out as
- *    one, holds it once, unpacked, on the stack: 2,048 bytes, and with all else that
- *    it needs at most some 2,400 (measured on x86-64; tests/c/stack.c tells it of
- *    another build). A check looks at each pair a fixed number of times at most,
- *    whatever R, P and the lateness are. A normal form is found, and a dated file
- *    judged, with no copy of the cycle.
+ *  - A call that checks, bills, reads or writes a cycle, tells its margins or its
+ *    tolerance, or writes a plan out as one, holds it once, unpacked, on the stack:
+ *    2,048 bytes, and with all else that it needs at most some 2,400 (measured on
+ *    x86-64; tests/c/stack.c tells it of another build). A check looks at each pair a
+ *    fixed number of times at most, whatever R, P and the lateness are, and so do
+ *    margins. A normal form is found, and a dated file judged, with no copy of the
+ *    cycle.
  *
  * Specification file: one byte of bit map (bit 0, the lowest, size; 1 gap;
  * 2 supply; 3 demand; 4 duration; 5 second range of gaps). Then, in that order,
@@ -93,8 +95,8 @@ enum maxeltu_refusal {
     MAXELTU_NO_EVEN_PLAN = 10,    /* at no gap of either range does any endless list of sizes obey the rules */
     MAXELTU_PLAN_IMPROPER = 11,   /* the plan is not proper */
 
-    /* Checking a cycle; 13 to 15 also of an offer to a meter, 12 also of a plan
-       written out, 26 also of the box plan. */
+    /* Checking a cycle; 12 to 14 also of its margins, 12 to 16 of its tolerance, 13
+       to 15 of an offer to a meter, 12 of a plan written out, 26 of the box plan. */
     MAXELTU_COUNT = 12,           /* the count of pairs is 0 or above MAXELTU_MAX_PAIRS */
     MAXELTU_GAP = 13,             /* some gap is in no range of the specification; the offer comes too early */
     MAXELTU_SIZE = 14,            /* some size, or the offer's, is out of the specification's range */
@@ -122,7 +124,7 @@ enum maxeltu_refusal {
     /* Which of two dated cycle files is in force; beside those of a cycle's file. */
     MAXELTU_SAME_DAY = 29,        /* both files can be read and have the same issue day, but they differ */
 
-    /* The box plan. */
+    /* The box plan, and the most tolerant plan. */
     MAXELTU_NO_BOX_PLAN = 30      /* every cycle of 1 to MAXELTU_MAX_PAIRS pairs with one gap throughout is refused */
 };
 
@@ -145,7 +147,7 @@ enum maxeltu_limit {
 /* The kinds of a plan, for the calls that take one. */
 enum maxeltu_kind {
     MAXELTU_WELL_FORMED = 0,      /* what maxeltu_min_demand, _max_supply and _test hand back */
-    MAXELTU_EVEN = 1              /* what maxeltu_even_plan and maxeltu_box_plan hand back */
+    MAXELTU_EVEN = 1              /* what maxeltu_even_plan, _box_plan and _tolerant_plan hand back */
 };
 
 /*
@@ -314,6 +316,23 @@ uint32_t maxeltu_box_plan(const uint8_t *spec, size_t spec_len,
                           uint32_t *total);
 
 /*
+ * The most tolerant plan: the largest lateness, up to MAXELTU_MAX_LATENESS, for which
+ * there is a box plan, and the box plan for it.
+ *
+ * Answers 0; 1 to 4 or 24; 30 where there is no box plan for reports that are on time.
+ * Writes *lateness, and *k, *period and *total as maxeltu_box_plan does for it, a plan
+ * of the even kind.
+ *
+ * No cycle of 1 to MAXELTU_MAX_PAIRS pairs with one gap throughout gets 0 from
+ * maxeltu_check_late for a greater lateness. Of the cycle of this plan (written out
+ * by maxeltu_write_plan and read by maxeltu_read_cycle) maxeltu_tolerance tells this
+ * lateness. At most 11 box plans are looked for.
+ */
+uint32_t maxeltu_tolerant_plan(const uint8_t *spec, size_t spec_len,
+                               uint32_t *lateness, uint32_t *k,
+                               uint32_t *period, uint32_t *total);
+
+/*
  * Minute and size of report i of a plan's endless run (reports count from 0;
  * report 0 is at minute 0). Any i may be asked for.
  *
@@ -444,6 +463,46 @@ uint32_t maxeltu_check_late(const uint8_t *spec, size_t spec_len,
 uint32_t maxeltu_shortest_stretch(const uint8_t *spec, size_t spec_len,
                                   const struct maxeltu_pair *pairs, size_t count,
                                   uint32_t *first, uint32_t *reports);
+
+/*
+ * How close a cycle comes to its limits, with reports that are on time: the most records
+ * that any R minutes of its endless repetition hold and the least that any P minutes
+ * hold, at whatever minute they start.
+ *
+ * *most is what the R minutes from report *most_from on hold, the report's own minute
+ * the first of them; *least is what the P minutes hold that begin with the minute just
+ * after report *least_after. Report i, counted from 0, is that of pairs[i]: both numbers
+ * are below count, and of the reports of which this is so they are the lowest.
+ * Where there is a supply rate, maxeltu_check_cycle gives 15 exactly where *most is above
+ * B; where there is a demand rate and it does not give 15, 16 exactly where *least is
+ * below L.
+ *
+ * Answers 0; 1 to 4 or 24; 12, 13 or 14 as maxeltu_check_cycle does. 15 and 16 are not
+ * given here.
+ * Reads `count` pairs; of more than 512, none. Looks at each pair a fixed number of
+ * times at most.
+ * Writes *most and *most_from only where the specification has a supply rate, *least
+ * and *least_after only where it has a demand rate: set them before the call, where a
+ * rate may be absent.
+ */
+uint32_t maxeltu_margins(const uint8_t *spec, size_t spec_len,
+                         const struct maxeltu_pair *pairs, size_t count,
+                         uint64_t *most, uint32_t *most_from, uint64_t *least,
+                         uint32_t *least_after);
+
+/*
+ * How late the reports of a cycle may be: the largest lateness, up to
+ * MAXELTU_MAX_LATENESS, for which maxeltu_check_late gives 0. It gives 0 for every
+ * smaller one too, and for no greater one.
+ *
+ * Answers 0; what maxeltu_check_cycle answers, where that is not 0. A cycle that is
+ * passed on time alone has 0, which is no refusal.
+ * Reads `count` pairs; of more than 512, none. The cycle is checked at most 11 times.
+ * Writes *lateness.
+ */
+uint32_t maxeltu_tolerance(const uint8_t *spec, size_t spec_len,
+                           const struct maxeltu_pair *pairs, size_t count,
+                           uint32_t *lateness);
 
 /*
  * What the first `reports` reports of a cycle's endless repetition cost, by the

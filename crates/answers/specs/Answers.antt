@@ -6,11 +6,14 @@ use Rattle.plan.specs.declared.Report.{Report}
 use Rattle.plan.specs.declared.moments.Contents.{Contents}
 use Rattle.plan.specs.Plans.{plan_numbers}
 use Rattle.cycle.specs.declared.Row.{Row}
+use Rattle.cycle.specs.declared.margins.Margin.{Margin}
+use Rattle.cycle.specs.declared.margins.Margins.{Margins}
 use Rattle.cost.specs.declared.Bill.{Bill}
 use Rattle.consistency.specs.declared.Condition.{Condition}
 use Rattle.consistency.specs.declared.Condition.TheVariants.{BoundsFitRates, FewestReportsFitBudget, EnoughReportsForDemand, SupplyCoversDemand}
 use Rattle.consistency.specs.Consistency.{Failing, inconsistent, refused}
 use Rattle.families.specs.declared.Scheduled.{Scheduled}
+use Rattle.tolerance.specs.declared.Late.{Late}
 use Rattle.dated.specs.declared.InForce.{InForce}
 use Rattle.dated.specs.declared.InForce.TheVariants.{First, Second}
 
@@ -81,6 +84,27 @@ row_values (Some row) = row.first ∷ row.reports ∷ []
 abbrev pub judged_answer : ℕ → Option Row → Answer
 judged_answer n stretch = record { number = n; values = row_values stretch }
 
+-- a margin: what the stretch holds, its report's number; nothing where the rate is absent
+abbrev pub margin_values : Option Margin → List ℕ
+margin_values None = []
+margin_values (Some m) = m.records ∷ m.report ∷ []
+
+-- one margin of a cycle, that of the fullest R minutes or that of the thinnest P minutes; or 3, 4, 24, 12 to 14
+abbrev pub margin_answer : (Margins → Option Margin) → Result Margins ℕ → Answer
+margin_answer which (Ok m) = yields (margin_values (which m))
+margin_answer which (Err n) = refusal n
+
+abbrev pub fullest_answer : Result Margins ℕ → Answer
+fullest_answer = margin_answer (λ m. m.fullest)
+
+abbrev pub thinnest_answer : Result Margins ℕ → Answer
+thinnest_answer = margin_answer (λ m. m.thinnest)
+
+-- the most tolerant plan: its numbers and its lateness; or 3, 4, 24, 30
+abbrev pub tolerant_answer : Result (Late Plan) ℕ → Answer
+tolerant_answer (Ok x) = yields (plan_numbers x.found (x.lateness ∷ []))
+tolerant_answer (Err n) = refusal n
+
 -- 1 the first of two dated files, 2 the second
 abbrev pub which_file : InForce → ℕ
 which_file First = 1
@@ -93,7 +117,7 @@ in_force_answer (Err n) = refusal n
 
 -- One number: that of the last or the nearest report, or 11 (document 02, Req 05); the calendar minute of a duty minute, or 27, and the duty
 -- minute of an open calendar minute, or 27, 28 (document 02, Req 11); how many pairs a normal form has, or 12, 20 (document 02, Req 12); how many
--- bytes a plan written out has, or 11, 12, 20.
+-- bytes a plan written out has, or 11, 12, 20; how late the reports of a cycle may be, or 3, 4, 24, 12 to 16.
 abbrev pub value_answer : Result ℕ ℕ → Answer
 value_answer (Ok x) = yields (x ∷ [])
 value_answer (Err n) = refusal n

@@ -8,16 +8,18 @@ ghost use Rattle.std.specs.Prelude.{◌≡◌};
 ghost use Rattle.std.specs.Result.{result_unwrap_or};
 ghost use Rattle.spec.specs.Refusals.{numbered, answer_number};
 ghost use Rattle.consistency.specs.Consistency.{told};
-ghost use Rattle.answers.specs.Answers.{condition_number, consistency_answer, scheduled_answer, tested_answer, plan_answer, report_answer, contents_answer, bill_answer, judged_answer, in_force_answer, held_after, held_or_value};
+ghost use Rattle.answers.specs.Answers.{condition_number, consistency_answer, scheduled_answer, tested_answer, plan_answer, report_answer, contents_answer, bill_answer, judged_answer, margin_values, yields, fullest_answer, thinnest_answer, tolerant_answer, in_force_answer, held_after, held_or_value};
 
 use consistency::{Condition, Unfit};
 use cost::Bill;
 use cycle::Judged;
+use cycle::margins::{Margin, Margins};
 use dated::InForce;
 use families::Scheduled;
 use plan::moments::Contents;
 use plan::{Plan, Report};
 use spec::refusal::{Refusal, answer_number};
+use tolerance::Late;
 
 // 3 to 6, as document 01 numbers the conditions.
 pub fn condition_number(c: Condition) -> u32
@@ -187,6 +189,68 @@ pub fn judged_answer(found: Judged, first: &mut u32, reports: &mut u32) -> u32
         *reports = row.reports;
     }
     answer_number(found.answer)
+}
+
+// A margin that is there.
+#[tactic(auto, unfolding(crate::specs::Answers::held_after))]
+fn store_margin(margin: Option<Margin>, records: &mut u64, report: &mut u32)
+    ensures records { records.new ≡ held_after 0 0 (yields (margin_values margin)) records.old }
+    ensures report { report.new ≡ held_after 0 1 (yields (margin_values margin)) report.old }
+{
+    if let Some(m) = margin {
+        *records = m.records;
+        *report = m.report;
+    }
+}
+
+#[tactic(auto, unfolding(crate::specs::Answers::held_after), using(crate::proofs::Places::after_refusal))]
+pub fn margins_answer(
+    found: Result<Margins, Refusal>,
+    most: &mut u64,
+    most_from: &mut u32,
+    least: &mut u64,
+    least_after: &mut u32,
+) -> u32
+    ensures number { result ≡ (fullest_answer (numbered found)).number }
+    ensures most { most.new ≡ held_after 0 0 (fullest_answer (numbered found)) most.old }
+    ensures most_from { most_from.new ≡ held_after 0 1 (fullest_answer (numbered found)) most_from.old }
+    ensures least { least.new ≡ held_after 0 0 (thinnest_answer (numbered found)) least.old }
+    ensures least_after { least_after.new ≡ held_after 0 1 (thinnest_answer (numbered found)) least_after.old }
+{
+    match found {
+        Ok(margins) => {
+            store_margin(margins.fullest, most, most_from);
+            store_margin(margins.thinnest, least, least_after);
+            0
+        }
+        Err(refusal) => refusal.number(),
+    }
+}
+
+#[tactic(auto, unfolding(crate::specs::Answers::held_after), using(crate::proofs::Places::after_refusal))]
+pub fn tolerant_answer(
+    found: Result<Late<Plan>, Refusal>,
+    lateness: &mut u32,
+    k: &mut u32,
+    period: &mut u32,
+    total: &mut u32,
+) -> u32
+    ensures number { result ≡ (tolerant_answer (numbered found)).number }
+    ensures lateness { lateness.new ≡ held_after 0 4 (tolerant_answer (numbered found)) lateness.old }
+    ensures k { k.new ≡ held_after 0 1 (tolerant_answer (numbered found)) k.old }
+    ensures period { period.new ≡ held_after 0 2 (tolerant_answer (numbered found)) period.old }
+    ensures total { total.new ≡ held_after 0 3 (tolerant_answer (numbered found)) total.old }
+{
+    match found {
+        Ok(most) => {
+            *lateness = most.lateness;
+            *k = most.found.count;
+            *period = most.found.period;
+            *total = most.found.total;
+            0
+        }
+        Err(refusal) => refusal.number(),
+    }
 }
 
 #[tactic(auto, unfolding(crate::specs::Answers::held_after), using(crate::proofs::Places::after_refusal))]

@@ -13,15 +13,17 @@ use Rattle.families.specs.Families.{schedule_for}
 use Rattle.feasibility.specs.Test.{test_of}
 use Rattle.even.specs.Even.{even_plan}
 use Rattle.boxplan.specs.BoxPlan.{box_plan}
+use Rattle.tolerance.specs.Tolerance.{tolerance, tolerant_plan}
 use Rattle.planfile.specs.PlanFile.{plan_file}
 use Rattle.pairs.specs.declared.Pair.{Pair}
 use Rattle.cycle.specs.Check.{check_number}
 use Rattle.cycle.specs.Shortest.{shortest_stretch}
+use Rattle.cycle.specs.Margins.{margins_of}
 use Rattle.cost.specs.Bills.{plan_bill, cycle_bill}
 use Rattle.normal.specs.Answers.{normalised}
 use Rattle.dated.specs.InForce.{in_force}
 use Rattle.duty.specs.Minutes.{calendar_of, duty_of, table_of}
-use Rattle.answers.specs.Answers.{Answer, refusal, consistency_answer, scheduled_answer, tested_answer, plan_answer, report_answer, contents_answer, bill_answer, judged_answer, in_force_answer, value_answer}
+use Rattle.answers.specs.Answers.{Answer, refusal, consistency_answer, scheduled_answer, tested_answer, plan_answer, report_answer, contents_answer, bill_answer, judged_answer, fullest_answer, thinnest_answer, tolerant_answer, in_force_answer, value_answer}
 
 unfoldable pub consistency_call : List ℕ → Answer
 consistency_call bytes = if_read (read_spec bytes) (λ s. consistency_answer (consistency_of s)) refusal
@@ -37,6 +39,9 @@ even_call bytes = if_read (read_spec bytes) (λ s. plan_answer (even_plan s)) re
 
 unfoldable pub box_call : List ℕ → (lateness : ℕ) → Answer
 box_call bytes lateness = if_read (read_spec bytes) (λ s. plan_answer (box_plan s lateness)) refusal
+
+unfoldable pub tolerant_call : List ℕ → Answer
+tolerant_call bytes = if_read (read_spec bytes) (λ s. tolerant_answer (tolerant_plan s)) refusal
 
 -- the plan of these numbers, the first of which names a kind
 abbrev pub plan_with : Result Kind ℕ → (k π δ : ℕ) → Result Plan ℕ
@@ -80,6 +85,17 @@ cycle_cost_call bytes ps reports = if_read (read_spec bytes) (λ s. bill_answer 
 -- the check of a list of pairs, with the shortest stretch that shows a 15 or a 16
 unfoldable pub stretch_call : List ℕ → List Pair → Answer
 stretch_call bytes ps = if_read (read_spec bytes) (λ s. judged_answer (check_number s ps) (shortest_stretch s ps)) refusal
+
+-- the margins of a list of pairs, that of the fullest R minutes and that of the thinnest P minutes
+unfoldable pub fullest_call : List ℕ → List Pair → Answer
+fullest_call bytes ps = if_read (read_spec bytes) (λ s. fullest_answer (margins_of s ps)) refusal
+
+unfoldable pub thinnest_call : List ℕ → List Pair → Answer
+thinnest_call bytes ps = if_read (read_spec bytes) (λ s. thinnest_answer (margins_of s ps)) refusal
+
+-- how late the reports of a list of pairs may be
+unfoldable pub tolerance_call : List ℕ → List Pair → Answer
+tolerance_call bytes ps = if_read (read_spec bytes) (λ s. value_answer (tolerance s ps)) refusal
 
 -- the normal form of a list of pairs, for a lent list of so many places
 unfoldable pub normal_call : List Pair → (places : ℕ) → Answer

@@ -1,9 +1,10 @@
 // What others call: the loader's call and the C interface of include/maxeltu.h, thin over the crates below. Every call answers 0 or the
-// number of the refusal; a lent place is written only where the answer is 0, the condition of an inconsistent specification only where it
-// is 7, the two places of a shortest stretch only where it is 15 or 16, and the budget left after every offer to a meter that has one to tell.
-// A call that plans, tests, checks or bills goes on from the reader's answer by `let .. else`, and from a plan that is named likewise: the form
-// that document 01 asks for. A plan comes as four numbers, as C has them. A call that checks, bills, reads or writes a cycle has 1,024
-// words of its own, what 512 pairs take, since a box has no heap; a normal form is found where the pairs lie.
+// number of the refusal; a lent place is written only where the answer is 0, the two places of a margin only for a rate that is there, the
+// condition of an inconsistent specification only where the answer is 7, the two places of a shortest stretch only where it is 15 or 16, and
+// the budget left after every offer to a meter that has one to tell. A call that takes a specification goes on from the reader's answer by
+// `let .. else`, and from a plan that is named likewise: the form that document 01 asks for. A plan comes as four numbers, as C has them. A
+// call that checks, bills, reads or writes a cycle, or tells its margins or its tolerance, has 1,024 words of its own, what 512 pairs take,
+// since a box has no heap; a normal form is found where the pairs lie.
 #![tactic(auto)]
 
 ghost use Rattle.std.specs.Prelude.{◌≡◌, length};
@@ -20,8 +21,9 @@ ghost use Rattle.duty.specs.Weeks.{table_number};
 ghost use Rattle.duty.specs.Minutes.{table_of};
 ghost use Rattle.answers.specs.Answers.{value_answer, held_after, held_or_value};
 ghost use Rattle.maxeltu.specs.Verdict.{verdict_of};
-ghost use Rattle.maxeltu.specs.Calls.{consistency_call, schedule_call, test_call, even_call, box_call, plan_named, report_call, last_call, nearest_call, between_call, stretch_call, plan_cost_call, plan_file_call, cycle_cost_call, normal_call, in_force_call, calendar_call, duty_call};
+ghost use Rattle.maxeltu.specs.Calls.{consistency_call, schedule_call, test_call, even_call, box_call, tolerant_call, plan_named, report_call, last_call, nearest_call, between_call, stretch_call, fullest_call, thinnest_call, tolerance_call, plan_cost_call, plan_file_call, cycle_cost_call, normal_call, in_force_call, calendar_call, duty_call};
 
+use cycle::margins;
 use cyclefile::reading;
 use families::Family;
 use meter::Meter;
@@ -186,6 +188,28 @@ pub fn maxeltu_box_plan(
     answers::plan_answer(boxplan::box_plan(s, lateness), k, period, total)
 }
 
+// The most tolerant plan of a specification's file: the largest lateness with a box plan, and that plan.
+#[tactic(auto, unfolding(crate::specs::Calls::tolerant_call), using(answers::proofs::Places::after_refusal))]
+pub fn maxeltu_tolerant_plan(
+    spec_bytes: &[u8],
+    lateness: &mut u32,
+    k: &mut u32,
+    period: &mut u32,
+    total: &mut u32,
+) -> u32
+    ensures { (result ≡ (tolerant_call spec_bytes.now).number)
+        × (lateness.new ≡ held_after 0 4 (tolerant_call spec_bytes.now) lateness.old)
+        × (k.new ≡ held_after 0 1 (tolerant_call spec_bytes.now) k.old)
+        × (period.new ≡ held_after 0 2 (tolerant_call spec_bytes.now) period.old)
+        × (total.new ≡ held_after 0 3 (tolerant_call spec_bytes.now) total.old) }
+{
+    let read = spec::read_spec(spec_bytes);
+    let Ok(s) = read else {
+        return answer_number(read);
+    };
+    answers::tolerant_answer(tolerance::tolerant_plan(s), lateness, k, period, total)
+}
+
 // The plan that four numbers name: kind 0 is well-formed, 1 even; of no other kind is there a proper plan.
 #[tactic(auto, unfolding(crate::specs::Calls::plan_named), using(answers::proofs::Places::after_refusal))]
 fn plan_named(kind: u32, k: u32, period: u32, total: u32) -> Result<Plan, Refusal>
@@ -347,6 +371,47 @@ pub fn maxeltu_shortest_stretch(
     let mut words = [0u16; 1024];
     let used = pairs::unpack(pairs, &mut words);
     answers::judged_answer(cycle::shortest_stretch(s, &words[..used]), first, reports)
+}
+
+// The most records that any R minutes of a lent list of pairs hold, and the least that any P minutes hold, each with its report.
+#[tactic(auto, unfolding(crate::specs::Calls::fullest_call, crate::specs::Calls::thinnest_call), using(answers::proofs::Places::after_refusal))]
+pub fn maxeltu_margins(
+    spec_bytes: &[u8],
+    pairs: &[Pair],
+    most: &mut u64,
+    most_from: &mut u32,
+    least: &mut u64,
+    least_after: &mut u32,
+) -> u32
+    ensures { (result ≡ (fullest_call spec_bytes.now pairs.now).number)
+        × (most.new ≡ held_after 0 0 (fullest_call spec_bytes.now pairs.now) most.old)
+        × (most_from.new ≡ held_after 0 1 (fullest_call spec_bytes.now pairs.now) most_from.old)
+        × (least.new ≡ held_after 0 0 (thinnest_call spec_bytes.now pairs.now) least.old)
+        × (least_after.new ≡ held_after 0 1 (thinnest_call spec_bytes.now pairs.now) least_after.old) }
+{
+    let read = spec::read_spec(spec_bytes);
+    let Ok(s) = read else {
+        return answer_number(read);
+    };
+    let mut words = [0u16; 1024];
+    let used = pairs::unpack(pairs, &mut words);
+    let found = margins::margins_of(s, &words[..used]);
+    answers::margins_answer(found, most, most_from, least, least_after)
+}
+
+// How late the reports of a lent list of pairs may be.
+#[tactic(auto, unfolding(crate::specs::Calls::tolerance_call), using(answers::proofs::Places::after_refusal, answers::proofs::Places::value_number, answers::proofs::Places::value_place))]
+pub fn maxeltu_tolerance(spec_bytes: &[u8], pairs: &[Pair], lateness: &mut u32) -> u32
+    ensures { (result ≡ (tolerance_call spec_bytes.now pairs.now).number)
+        × (lateness.new ≡ held_after 0 0 (tolerance_call spec_bytes.now pairs.now) lateness.old) }
+{
+    let read = spec::read_spec(spec_bytes);
+    let Ok(s) = read else {
+        return answer_number(read);
+    };
+    let mut words = [0u16; 1024];
+    let used = pairs::unpack(pairs, &mut words);
+    answers::value_answer(tolerance::tolerance(s, &words[..used]), lateness)
 }
 
 // What the first reports of a lent list of pairs cost, against a specification's file. The list is unpacked once.

@@ -16,7 +16,7 @@ ghost use Rattle.duty.specs.Weeks.{table_number};
 ghost use Rattle.duty.specs.Minutes.{table_of};
 ghost use Rattle.answers.specs.Answers.{value_answer, held_after, held_or_value};
 ghost use Rattle.maxeltu.specs.Verdict.{verdict_of};
-ghost use Rattle.maxeltu.specs.Calls.{consistency_call, schedule_call, test_call, even_call, box_call, plan_named, report_call, last_call, nearest_call, between_call, stretch_call, plan_cost_call, plan_file_call, cycle_cost_call, normal_call, in_force_call, calendar_call, duty_call};
+ghost use Rattle.maxeltu.specs.Calls.{consistency_call, schedule_call, test_call, even_call, box_call, tolerant_call, plan_named, report_call, last_call, nearest_call, between_call, stretch_call, fullest_call, thinnest_call, tolerance_call, plan_cost_call, plan_file_call, cycle_cost_call, normal_call, in_force_call, calendar_call, duty_call};
 
 use meter::Meter;
 use pairs::Pair;
@@ -123,6 +123,24 @@ pub extern "C" fn maxeltu_box_plan(
         × (total.new ≡ held_after 0 3 (box_call spec_bytes.now lateness) total.old) }
 {
     maxeltu::maxeltu_box_plan(spec_bytes, lateness, k, period, total)
+}
+
+// The most tolerant plan of a specification's file: the largest lateness with a box plan, and that plan.
+#[unsafe(no_mangle)]
+pub extern "C" fn maxeltu_tolerant_plan(
+    spec_bytes: &[u8],
+    lateness: &mut u32,
+    k: &mut u32,
+    period: &mut u32,
+    total: &mut u32,
+) -> u32
+    ensures { (result ≡ (tolerant_call spec_bytes.now).number)
+        × (lateness.new ≡ held_after 0 4 (tolerant_call spec_bytes.now) lateness.old)
+        × (k.new ≡ held_after 0 1 (tolerant_call spec_bytes.now) k.old)
+        × (period.new ≡ held_after 0 2 (tolerant_call spec_bytes.now) period.old)
+        × (total.new ≡ held_after 0 3 (tolerant_call spec_bytes.now) total.old) }
+{
+    maxeltu::maxeltu_tolerant_plan(spec_bytes, lateness, k, period, total)
 }
 
 // Minute and size of report i of a plan.
@@ -242,6 +260,34 @@ pub extern "C" fn maxeltu_shortest_stretch(
         × (reports.new ≡ held_or_value 1 (stretch_call spec_bytes.now pairs.now) reports.old) }
 {
     maxeltu::maxeltu_shortest_stretch(spec_bytes, pairs, first, reports)
+}
+
+// The most records that any R minutes of a lent list of pairs hold, and the least that any P minutes hold, each with its report.
+#[unsafe(no_mangle)]
+pub extern "C" fn maxeltu_margins(
+    spec_bytes: &[u8],
+    pairs: &[Pair],
+    most: &mut u64,
+    most_from: &mut u32,
+    least: &mut u64,
+    least_after: &mut u32,
+) -> u32
+    ensures { (result ≡ (fullest_call spec_bytes.now pairs.now).number)
+        × (most.new ≡ held_after 0 0 (fullest_call spec_bytes.now pairs.now) most.old)
+        × (most_from.new ≡ held_after 0 1 (fullest_call spec_bytes.now pairs.now) most_from.old)
+        × (least.new ≡ held_after 0 0 (thinnest_call spec_bytes.now pairs.now) least.old)
+        × (least_after.new ≡ held_after 0 1 (thinnest_call spec_bytes.now pairs.now) least_after.old) }
+{
+    maxeltu::maxeltu_margins(spec_bytes, pairs, most, most_from, least, least_after)
+}
+
+// How late the reports of a lent list of pairs may be.
+#[unsafe(no_mangle)]
+pub extern "C" fn maxeltu_tolerance(spec_bytes: &[u8], pairs: &[Pair], lateness: &mut u32) -> u32
+    ensures { (result ≡ (tolerance_call spec_bytes.now pairs.now).number)
+        × (lateness.new ≡ held_after 0 0 (tolerance_call spec_bytes.now pairs.now) lateness.old) }
+{
+    maxeltu::maxeltu_tolerance(spec_bytes, pairs, lateness)
 }
 
 // What the first reports of a lent list of pairs cost, against a specification's file. The list is unpacked once.
