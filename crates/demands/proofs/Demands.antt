@@ -42,6 +42,7 @@ use Rattle.even.proofs.EvenPlans.{even_plan_accepted, even_plan_obeys, even_plan
 use Rattle.even.proofs.ReportZero.{report_0_thinner}
 use Rattle.boxplan.specs.BoxPlan.{box_plan}
 use Rattle.boxplan.proofs.BoxPlans.{box_plan_best, box_plan_refused, box_too_late, no_even_no_box}
+use Rattle.tolerance.proofs.Tolerances.{tolerance_is, tolerance_refused, tolerant_is, tolerant_tolerance, tolerant_refused}
 use Rattle.planfile.specs.PlanFile.{plan_pairs, plan_file, file_after}
 use Rattle.planfile.proofs.Written.{plan_written, plan_round, plan_verdict, plan_reads_back}
 use Rattle.planfile.proofs.FileNumbers.{plan_file_numbers}
@@ -55,6 +56,7 @@ use Rattle.cycle.proofs.Rounds.{whole_rounds}
 use Rattle.cycle.proofs.Runs.{gaps_later}
 use Rattle.cycle.proofs.Shown.{full_shown, thin_shown}
 use Rattle.cycle.proofs.SentBack.{shown_15, shown_16, few_shown, none_shown}
+use Rattle.cycle.proofs.CycleMargins.{margins_right, margins_refused, margin_15, margin_16}
 use Rattle.cost.proofs.Rounds.{plan_in_rounds, cycle_in_rounds}
 use Rattle.cost.proofs.Billing.{plan_billed, plan_in_bands, cycle_billed, cycle_in_bands}
 use Rattle.cyclefile.specs.File.{cycle_bytes, read_cycle, write_number, Reads, bytes_after}
@@ -285,6 +287,12 @@ demands = record {
   shown_16 = shown_16;
   few_shown = few_shown;
   none_shown = none_shown;
+  margins_right = margins_right;
+  margins_refused = margins_refused;
+  margin_15 = margin_15;
+  margin_16 = margin_16;
+  tolerance_is = tolerance_is;
+  tolerance_refused = tolerance_refused;
   test_obeys = test_sound;
   even_obeys = even_plan_obeys;
   even_refused = even_plan_refused;
@@ -308,6 +316,9 @@ demands = record {
   box_refused = box_plan_refused;
   box_too_late = box_too_late;
   no_even_no_box = no_even_no_box;
+  tolerant_is = tolerant_is;
+  tolerant_tolerance = tolerant_tolerance;
+  tolerant_refused = tolerant_refused;
   on_duty_lem = kept_on_duty;
   test_on_duty = λ table s p v valid e. kept_on_duty table s (run p) valid (test_accepted s p v e) (test_sound s p v e).1;
   even_on_duty = λ table s p valid e. kept_on_duty table s (run p) valid (even_plan_accepted s p e) (even_plan_obeys s p e).1;

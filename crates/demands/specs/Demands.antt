@@ -31,12 +31,16 @@ use Rattle.feasibility.specs.Test.{family_of, figure_passes, test_of, BestOfAll}
 use Rattle.even.specs.Even.{even_plan, evenly}
 use Rattle.boxplan.specs.BoxPlan.{box_plan}
 use Rattle.boxplan.specs.OneGapCycles.{OneGapCycle, plan_gap}
+use Rattle.tolerance.specs.declared.Late.{Late}
+use Rattle.tolerance.specs.Tolerance.{tolerance, tolerant_plan}
 use Rattle.planfile.specs.PlanFile.{plan_pairs, plan_file, file_after}
 use Rattle.pairs.specs.declared.Pair.{Pair}
 use Rattle.cycle.specs.Cycles.{pair_gap, cycle_run, round, round_records}
 use Rattle.cycle.specs.Check.{check_number, check_file_number}
 use Rattle.cycle.specs.LateCheck.{late_number, late_file_number}
 use Rattle.cycle.specs.declared.Row.{Row}
+use Rattle.cycle.specs.declared.margins.Margins.{Margins}
+use Rattle.cycle.specs.Margins.{margins_of, IsMost, IsLeast, AboveB, BelowL}
 use Rattle.cycle.specs.Shortest.{shows_full, shows_thin, shortest_stretch, IsGiven}
 use Rattle.normal.specs.Normal.{in_order, normal_form}
 use Rattle.normal.specs.Answers.{normalised, places_after}
@@ -318,6 +322,22 @@ pub record Demands : Type 0 where
   pub few_shown : (s : Spec) (c : List Pair) (row : Row) → shortest_stretch s c ≡ Some row → row.reports ≤ 20_001
   -- a cycle with another answer gets just that, and no other does
   pub none_shown : (s : Spec) (c : List Pair) → (shortest_stretch s c ≡ None) ↔ (¬ (check_number s c ≡ 15) × ¬ (check_number s c ≡ 16))
+  -- How close a cycle comes to its limits (the request "How much leeway a cycle has", beyond document 02). No R minutes at any start of the endless run
+  -- hold more than the most, no P minutes less than the least; the minutes that begin with the named report, or just after it, hold just that,
+  -- and its number is the lowest of all such, and below the count. A rate that is absent has no margin.
+  pub margins_right : (s : Spec) (c : List Pair) (m : Margins) → margins_of s c ≡ Ok m
+      → IsMost (cycle_run c) (length c) s.supply m.fullest × IsLeast (cycle_run c) (length c) s.demand m.thinnest
+  -- they are refused with just those numbers of the check that are not of its stretches
+  pub margins_refused : (s : Spec) (c : List Pair) (n : ℕ)
+      → (margins_of s c ≡ Err n) ↔ ((check_number s c ≡ n) × ¬ (n ≡ 0) × ¬ (n ≡ 15) × ¬ (n ≡ 16))
+  -- so the check gives 15 exactly where the most is above B, and without it 16 exactly where the least is below L
+  pub margin_15 : (s : Spec) (c : List Pair) (m : Margins) → margins_of s c ≡ Ok m → (check_number s c ≡ 15) ↔ AboveB s.supply m.fullest
+  pub margin_16 : (s : Spec) (c : List Pair) (m : Margins) → margins_of s c ≡ Ok m
+      → (check_number s c ≡ 16) ↔ (¬ AboveB s.supply m.fullest × BelowL s.demand m.thinnest)
+  -- How late the reports of a cycle may be: it is passed for every lateness up to its tolerance, which is 1,440 at most, and for none above it.
+  pub tolerance_is : (s : Spec) (c : List Pair) (most : ℕ) → tolerance s c ≡ Ok most → (most ≤ 1_440) × ((j : ℕ) → (late_number s j c ≡ 0) ↔ (j ≤ most))
+  -- it is refused exactly where the check is, with the same number
+  pub tolerance_refused : (s : Spec) (c : List Pair) (n : ℕ) → (tolerance s c ≡ Err n) ↔ ((check_number s c ≡ n) × ¬ (n ≡ 0))
   -- the endless run of every plan that the test passed obeys them
   pub test_obeys : (s : Spec) (p : Plan) (v : ℕ) → test_of s ≡ Ok (schedule_of p v) → (proper p ≡ true) × Obeys s (run p)
   -- and so does that of every even plan
@@ -375,6 +395,15 @@ pub record Demands : Type 0 where
       → (box_plan s lateness ≡ Err 30) ↔ ((g : ℕ) (c : List Pair) → OneGapCycle g c → ¬ (late_number s lateness c ≡ 0))
   pub box_too_late : (s : Spec) (lateness : ℕ) → (box_plan s lateness ≡ Err 26) ↔ (IsAccepted s × (1_440 < lateness))
   pub no_even_no_box : (s : Spec) (lateness : ℕ) → IsAccepted s → lateness ≤ 1_440 → even_plan s ≡ Err 10 → box_plan s lateness ≡ Err 30
+  -- The most tolerant plan is the box plan for its lateness, which is 1,440 at most; no cycle of 1 to 512 pairs with one gap throughout passes for a
+  -- greater one. Its own cycle has just that tolerance.
+  pub tolerant_is : (s : Spec) (t : Late Plan) → tolerant_plan s ≡ Ok t
+      → (t.lateness ≤ 1_440)
+      × (box_plan s t.lateness ≡ Ok t.found)
+      × ((lateness g : ℕ) (c : List Pair) → OneGapCycle g c → late_number s lateness c ≡ 0 → lateness ≤ t.lateness)
+  pub tolerant_tolerance : (s : Spec) (t : Late Plan) → tolerant_plan s ≡ Ok t → tolerance s (plan_pairs t.found) ≡ Ok t.lateness
+  -- it is refused exactly where the box plan for reports that are on time is, with the same number
+  pub tolerant_refused : (s : Spec) (n : ℕ) → (tolerant_plan s ≡ Err n) ↔ (box_plan s 0 ≡ Err n)
   -- Run on duty minutes (document 02, Req 11), every schedule that obeys, so every cycle that is passed, still holds at most B in any R calendar
   -- minutes and keeps smin there; and so does every plan that the test passed, and every even plan.
   pub on_duty_lem : (table : Table) (s : Spec) (t : Schedule) → IsTable table → IsAccepted s → Obeys s t → KeptOnDuty table s t
