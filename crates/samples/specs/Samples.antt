@@ -1,7 +1,7 @@
 -- Document 01, "Samples": those marked ★ as one table, and one proof that the definitions give every value that it prints. The sizes of
 -- B with 15 are those of document 02, Req 02, its offers those of Req 03, and what four reports of it cost that of Req 08; what F gets is
 -- that of Req 07; the way back from minutes, of Req 05, the other bills, late reports, of Req 09, normal forms, of Req 12, shortest stretches, of
--- Req 14, box plans, and F with B = 15 are ours.
+-- Req 14, box plans, margins, tolerances, most tolerant plans, and F with B = 15 are ours.
 use Rattle.std.specs.Prelude.{ℕ, ◌+◌, ◌*◌, ◌≡◌, refl, List, [], ◌∷◌, ◌++◌, Bool, true, false, ◌&&◌, eqb, length, Option, None, Some, Result, Ok, Err}
 use Rattle.spec.specs.declared.Rate.{Rate}
 use Rattle.spec.specs.declared.Range.{Range}
@@ -26,15 +26,17 @@ use Rattle.even.specs.Even.{even_plan, plan_or10, even_plan_at, even_gap, larges
 use Rattle.boxplan.specs.BoxPlan.{most_at, fewest_records, supply_holds, pairs_fit, fewest_pairs, can_load, box_gap, box_plan_at, plan_or30, box_plan}
 use Rattle.planfile.specs.PlanFile.{pairs_from, plan_pairs, plan_file}
 use Rattle.cyclefile.specs.File.{pair_bytes, pairs_bytes, cycle_bytes, write_number, file_answer}
-use Rattle.answers.specs.Answers.{Answer, consistency_answer, scheduled_answer, tested_answer, plan_answer, value_answer, contents_answer, bill_answer, judged_answer}
+use Rattle.answers.specs.Answers.{Answer, consistency_answer, scheduled_answer, tested_answer, plan_answer, value_answer, contents_answer, bill_answer, judged_answer, fullest_answer, thinnest_answer, tolerant_answer}
 use Rattle.lateness.specs.Lateness.{late_gap_allowed, late_supply, late_demand, lateness_number}
 use Rattle.lateness.specs.PlannedSpec.{joined_end, second_apart, shortened, planned_spec}
 use Rattle.pairs.specs.declared.Pair.{Pair}
 use Rattle.pairs.specs.Pairs.{flatten}
 use Rattle.cycle.specs.Cycles.{pair_gap, pair_size, cycle_run, round}
-use Rattle.cycle.specs.Check.{check_number, cycle_number, first_refusal, gaps_allowed, sizes_allowed, supply_kept, demand_met}
+use Rattle.cycle.specs.Check.{check_number, cycle_number, first_refusal, gaps_allowed, sizes_allowed, supply_kept, demand_met, shape_number}
 use Rattle.cycle.specs.LateCheck.{late_number, late_cycle_number, late_gaps_allowed}
 use Rattle.cycle.specs.Shortest.{shows_full, shows_thin, shortest, shortest_full, shortest_thin, shortest_stretch}
+use Rattle.cycle.specs.Margins.{farthest_of, margin, margin_of, margins, margins_of}
+use Rattle.tolerance.specs.Tolerance.{latest, most_late, passing, tolerance, tolerant_plan}
 use Rattle.normal.specs.Normal.{pair_of, repeats, period, row, in_order, comes_first, least_start, normal_form}
 use Rattle.normal.specs.Answers.{normalised}
 use Rattle.cost.specs.declared.Bill.{Bill}
@@ -65,6 +67,8 @@ pub data Claim : Type 0 where
   box_refuses : (lateness number : ℕ) → Claim
   box_writes : (lateness room : ℕ) (file : List ℕ) → Claim
   box_not_written : (lateness room number : ℕ) → Claim
+  tolerant_gives : (lateness gap k total : ℕ) → Claim
+  tolerant_refuses : (number : ℕ) → Claim
   minimum_demand_minute : (k minute last nearest : ℕ) → Claim
   minimum_demand_between : (k a b reports records : ℕ) → Claim
   even_minute : (minute last nearest : ℕ) → Claim
@@ -75,6 +79,10 @@ pub data Claim : Type 0 where
   late_gets : (cycle : List Pair) (lateness number : ℕ) → Claim
   stretch_is : (cycle : List Pair) (number first reports : ℕ) → Claim
   no_stretch : (cycle : List Pair) (number : ℕ) → Claim
+  margins_are : (cycle : List Pair) (most least : List ℕ) → Claim
+  no_margins : (cycle : List Pair) (number : ℕ) → Claim
+  tolerance_is : (cycle : List Pair) (lateness : ℕ) → Claim
+  no_tolerance : (cycle : List Pair) (number : ℕ) → Claim
   cycle_costs : (cycle : List Pair) (reports tenths cents : ℕ) → Claim
   cycle_not_billed : (cycle : List Pair) (reports number : ℕ) → Claim
   normal_is : (cycle : List Pair) (places : ℕ) (normal : List Pair) → Claim
@@ -186,6 +194,8 @@ claim_holds s (box_gives lateness g k δ) = answer_is (plan_answer (box_plan s l
 claim_holds s (box_refuses lateness n) = answer_is (plan_answer (box_plan s lateness)) n []
 claim_holds s (box_writes lateness room file) = of_even (box_plan s lateness) (λ p. file_is (plan_file room p) file)
 claim_holds s (box_not_written lateness room n) = of_even (box_plan s lateness) (λ p. answer_is (value_answer (file_answer (plan_file room p))) n [])
+claim_holds s (tolerant_gives lateness g k δ) = answer_is (tolerant_answer (tolerant_plan s)) 0 (even ∷ k ∷ k * g ∷ δ ∷ lateness ∷ [])
+claim_holds s (tolerant_refuses n) = answer_is (tolerant_answer (tolerant_plan s)) n []
 claim_holds s (minimum_demand_minute k m i j) = of_schedule (schedule_for MinimumDemand s k) (λ p. minute_is p m i j)
 claim_holds s (minimum_demand_between k a b n d) = of_schedule (schedule_for MinimumDemand s k) (λ p. between_is p a b n d)
 claim_holds s (even_minute m i j) = of_even (even_plan s) (λ p. minute_is p m i j)
@@ -196,6 +206,10 @@ claim_holds s (cycle_gets c n) = eqb (check_number s c) n
 claim_holds s (late_gets c lateness n) = eqb (late_number s lateness c) n
 claim_holds s (stretch_is c n i reports) = answer_is (judged_answer (check_number s c) (shortest_stretch s c)) n (i ∷ reports ∷ [])
 claim_holds s (no_stretch c n) = answer_is (judged_answer (check_number s c) (shortest_stretch s c)) n []
+claim_holds s (margins_are c most least) = answer_is (fullest_answer (margins_of s c)) 0 most && answer_is (thinnest_answer (margins_of s c)) 0 least
+claim_holds s (no_margins c n) = answer_is (fullest_answer (margins_of s c)) n [] && answer_is (thinnest_answer (margins_of s c)) n []
+claim_holds s (tolerance_is c lateness) = answer_is (value_answer (tolerance s c)) 0 (lateness ∷ [])
+claim_holds s (no_tolerance c n) = answer_is (value_answer (tolerance s c)) n []
 claim_holds s (cycle_costs ps n t c) = bill_is (cycle_bill s ps n) t c
 claim_holds s (cycle_not_billed ps n number) = answer_is (bill_answer (cycle_bill s ps n)) number []
 claim_holds s (normal_is c places normal) =
@@ -212,21 +226,25 @@ pub record Sample : Type 0 where
   pub spec : Spec
   pub claims : List Claim
 
--- a sample with a second range of gaps, which may be absent
-pub sample_with : Option Range → (dmin dmax smin smax b r l p : ℕ) → List Claim → Sample
-sample_with second dmin dmax smin smax b r l p cs = record {
+-- a sample with a second range of gaps and two rates, each of which may be absent
+pub sample_of : Option Range → (supply demand : Option Rate) → (dmin dmax smin smax : ℕ) → List Claim → Sample
+sample_of second supply demand dmin dmax smin smax cs = record {
   spec = record {
     dmin = dmin;
     dmax = dmax;
     smin = smin;
     smax = smax;
-    supply = Some (rate_of b r);
-    demand = Some (rate_of l p);
+    supply = supply;
+    demand = demand;
     duration = None;
     second = second;
   };
   claims = cs;
 }
+
+-- with both rates
+pub sample_with : Option Range → (dmin dmax smin smax b r l p : ℕ) → List Claim → Sample
+sample_with second dmin dmax smin smax b r l p = sample_of second (Some (rate_of b r)) (Some (rate_of l p)) dmin dmax smin smax
 
 -- "Written (sizes), (gaps), (B, R), (L, P)."
 pub sample : (dmin dmax smin smax b r l p : ℕ) → List Claim → Sample
@@ -259,7 +277,8 @@ samples =
     ∷ even_gives 52 3 17
     ∷ box_gives 0 52 3 17
     ∷ box_gives 5 50 3 17
-    ∷ box_refuses 6 30 ∷ [])
+    ∷ box_refuses 6 30
+    ∷ tolerant_gives 5 50 3 17 ∷ [])
     ∷ sample 3 10 45 55 28 220 17 158 (test_refuses 9 ∷ even_refuses 10 ∷ box_refuses 0 30 ∷ [])
     -- ★B
     ∷ sample 2 3 5 5 16 26 10 20 (test_passes 4 20 10 16 ∷ minimum_demand 4 20 10 16 ∷ [])
@@ -273,6 +292,7 @@ samples =
     ∷ box_gives 0 5 2 5
     ∷ box_writes 0 10 (0 ∷ 2 ∷ 3 ∷ 0 ∷ 5 ∷ 0 ∷ 3 ∷ 2 ∷ 0 ∷ 2 ∷ [])
     ∷ box_not_written 0 9 20
+    ∷ tolerant_gives 0 5 2 5
     ∷ even_minute 12 2 2
     ∷ even_minute 13 2 3
     ∷ even_between 5 25 4 10
@@ -289,6 +309,17 @@ samples =
     ∷ stretch_is (cycle 5 (3 ∷ 2 ∷ 2 ∷ 3 ∷ [])) 15 3 6
     ∷ stretch_is (cycle 5 (2 ∷ 2 ∷ 2 ∷ 3 ∷ [])) 16 0 4
     ∷ no_stretch (cycle 5 (3 ∷ 2 ∷ [])) 0
+    -- how close they come: six reports in a row, and four after one; of equals the lowest number
+    ∷ margins_are (cycle 5 (3 ∷ 2 ∷ [])) (15 ∷ 0 ∷ []) (10 ∷ 0 ∷ [])
+    ∷ margins_are (cycle 5 (3 ∷ 3 ∷ 2 ∷ 2 ∷ [])) (16 ∷ 0 ∷ []) (10 ∷ 0 ∷ [])
+    ∷ margins_are (cycle 5 (3 ∷ 2 ∷ 2 ∷ 3 ∷ [])) (16 ∷ 3 ∷ []) (10 ∷ 0 ∷ [])
+    ∷ margins_are (cycle 5 (2 ∷ 2 ∷ 2 ∷ 3 ∷ [])) (14 ∷ 2 ∷ []) (9 ∷ 0 ∷ [])
+    ∷ no_margins (cycle 6 (3 ∷ 2 ∷ [])) 13
+    ∷ no_margins [] 12
+    ∷ tolerance_is (cycle 5 (3 ∷ 2 ∷ [])) 0
+    ∷ no_tolerance (cycle 5 (3 ∷ 3 ∷ 2 ∷ 2 ∷ [])) 15
+    ∷ no_tolerance (cycle 5 (2 ∷ 2 ∷ 2 ∷ 3 ∷ [])) 16
+    ∷ no_tolerance [] 12
     ∷ no_stretch (cycle 6 (3 ∷ 2 ∷ [])) 13
     ∷ no_stretch [] 12
     ∷ cycle_gets (cycle 5 (2 ∷ 2 ∷ 2 ∷ 3 ∷ [])) 16
@@ -309,8 +340,12 @@ samples =
     ∷ offer 28 1 14 0
     ∷ offer 28 3 15 0
     ∷ offer 29 3 0 0 ∷ []) ∷ [])
+    -- with one rate alone, and with none: nothing is told of one that is absent
+    ∷ sample_of None (Some (rate_of 15 26)) None 2 3 5 5 (margins_are (cycle 5 (3 ∷ 2 ∷ [])) (15 ∷ 0 ∷ []) [] ∷ tolerance_is (cycle 5 (3 ∷ 2 ∷ [])) 0 ∷ [])
+    ∷ sample_of None None (Some (rate_of 10 20)) 2 3 5 5 (margins_are (cycle 5 (3 ∷ 2 ∷ [])) [] (10 ∷ 0 ∷ []) ∷ [])
+    ∷ sample_of None None None 2 3 5 5 (margins_are (cycle 5 (3 ∷ 2 ∷ [])) [] [] ∷ [])
     -- ★B = 14
-    ∷ sample 2 3 5 5 14 26 10 20 (even_refuses 10 ∷ box_refuses 0 30 ∷ [])
+    ∷ sample 2 3 5 5 14 26 10 20 (even_refuses 10 ∷ box_refuses 0 30 ∷ tolerant_refuses 30 ∷ [])
     -- ★C
     ∷ sample 5 6 45 46 10 79 17 159 (maximum_supply 2 90 10 15 ∷ test_refuses 9 ∷ even_refuses 10 ∷ [])
     -- ★D
@@ -343,15 +378,20 @@ samples =
     -- the box plan: 65 to 85 minutes are left of the second range, then 75 alone, then nothing of either
     ∷ box_gives 5 85 1 8
     ∷ box_gives 15 75 1 8
-    ∷ box_refuses 16 30 ∷ [])
+    ∷ box_refuses 16 30
+    ∷ tolerant_gives 15 75 1 8
+    ∷ tolerance_is (cycle 75 (8 ∷ [])) 15 ∷ [])
     ∷ sample_with (Some (range_of 16 90)) 1 10 5 15 22 60 8 90 (
     cycle_gets (cycle 15 (8 ∷ []) ++ cycle 30 (4 ∷ []) ++ cycle 90 (8 ∷ [])) 0
     ∷ late_gets (cycle 15 (4 ∷ [])) 10 0
     ∷ late_gets (cycle 15 (4 ∷ [])) 11 13
     ∷ late_gets (cycle 40 (4 ∷ [])) 10 0
     ∷ late_gets (cycle 40 (4 ∷ [])) 11 16
-    ∷ box_gives 10 80 1 8 ∷ [])
-    ∷ sample_with (Some (range_of 15 90)) 1 10 5 15 22 60 8 90 (consistency_gets 24 ∷ test_refuses 24 ∷ even_refuses 24 ∷ late_gets [] 1441 24 ∷ box_refuses 1441 24 ∷ [])
+    ∷ box_gives 10 80 1 8
+    -- the two ranges are one: the first alone has no gap that is 40 minutes from both its ends
+    ∷ tolerant_gives 40 50 1 8
+    ∷ tolerance_is (cycle 40 (4 ∷ [])) 10 ∷ [])
+    ∷ sample_with (Some (range_of 15 90)) 1 10 5 15 22 60 8 90 (consistency_gets 24 ∷ test_refuses 24 ∷ even_refuses 24 ∷ late_gets [] 1441 24 ∷ box_refuses 1441 24 ∷ tolerant_refuses 24 ∷ no_tolerance [] 24 ∷ no_margins [] 24 ∷ [])
     -- reports that arrive late (document 02, Req 09): samples/late.spec with its cycles
     ∷ sample 1 2 2 6 4 6 2 8 (
     late_gets (cycle 4 (2 ∷ [])) 2 0
@@ -367,7 +407,9 @@ samples =
     ∷ late_gets [] 1441 26
     ∷ box_gives 2 4 1 2
     ∷ box_refuses 3 30
-    ∷ box_refuses 1441 26 ∷ [])
+    ∷ box_refuses 1441 26
+    ∷ tolerance_is (cycle 4 (2 ∷ [])) 2
+    ∷ tolerant_gives 2 4 1 2 ∷ [])
     -- P minutes of no more than J can be empty; so can P minutes between two reports
     ∷ sample 1 9 1 9 9 1 1 3 (late_gets (cycle 4 (9 ∷ [])) 3 16 ∷ stretch_is (cycle 4 (9 ∷ [])) 16 0 0 ∷ [])
     ∷ []
@@ -378,5 +420,5 @@ samples_hold (x ∷ xs) = claims_hold x.spec x.claims && samples_hold xs
 
 -- Every value of the table is what the definitions compute.
 pub samples_hold_lem : samples_hold samples ≡ true
-unfolding samples_hold samples sample box_plan plan_or30 box_plan_at box_gap can_load fewest_pairs pairs_fit supply_holds fewest_records most_at joined_end second_apart shortened planned_spec pairs_from plan_pairs plan_file pair_bytes pairs_bytes cycle_bytes write_number file_is sample_with cycle two_rounds offer offered left_is answers_are claims_hold claim_holds same answer_is report_is reports_are well_formed even minute_is between_is bill_is of_schedule of_even same_rate same_range read_to spec_number first_number limits order rate_limits range_limits range_order starts_above in_range size_allowed gap_allowed top_of read_spec if_none second_number one_range_number started sum minute held_from stretch proper run kind_run well_size well_gap even_first even_size report_of if_proper between_of greatest last_report first_least nearest_report reports_from records_from consistency_of conditions_of bounds_fit_rates size_fits_budget gap_fits_demand demand_fits_duration fewest_reports_fit_budget enough_reports_for_demand supply_covers_demand where_there ceil schedule_for both_rates rates_from scheduled exists plan_for supply_figure required available least test_of test_consistent test_taken figure_passes taken first_count last_count schedule_with taken_from better_of is_better family_of even_plan plan_or10 even_plan_at even_gap largest fits supply_fits demand_fits total_of count_at pair_gap pair_size cycle_run round check_number cycle_number first_refusal gaps_allowed sizes_allowed supply_kept demand_met lateness_number late_number late_cycle_number late_gap_allowed late_gaps_allowed late_supply late_demand all price_in charge tenths plan_bill cycle_bill first shows_full shows_thin shortest shortest_full shortest_thin shortest_stretch pair_of repeats period row in_order comes_first least_start normal_form normalised counted_at too_early over_budget no_place offer_number after later budget_left offer_answer plain_answers
+unfolding samples_hold samples sample farthest_of margin margin_of margins margins_of shape_number latest most_late passing tolerance tolerant_plan box_plan plan_or30 box_plan_at box_gap can_load fewest_pairs pairs_fit supply_holds fewest_records most_at joined_end second_apart shortened planned_spec pairs_from plan_pairs plan_file pair_bytes pairs_bytes cycle_bytes write_number file_is sample_of sample_with cycle two_rounds offer offered left_is answers_are claims_hold claim_holds same answer_is report_is reports_are well_formed even minute_is between_is bill_is of_schedule of_even same_rate same_range read_to spec_number first_number limits order rate_limits range_limits range_order starts_above in_range size_allowed gap_allowed top_of read_spec if_none second_number one_range_number started sum minute held_from stretch proper run kind_run well_size well_gap even_first even_size report_of if_proper between_of greatest last_report first_least nearest_report reports_from records_from consistency_of conditions_of bounds_fit_rates size_fits_budget gap_fits_demand demand_fits_duration fewest_reports_fit_budget enough_reports_for_demand supply_covers_demand where_there ceil schedule_for both_rates rates_from scheduled exists plan_for supply_figure required available least test_of test_consistent test_taken figure_passes taken first_count last_count schedule_with taken_from better_of is_better family_of even_plan plan_or10 even_plan_at even_gap largest fits supply_fits demand_fits total_of count_at pair_gap pair_size cycle_run round check_number cycle_number first_refusal gaps_allowed sizes_allowed supply_kept demand_met lateness_number late_number late_cycle_number late_gap_allowed late_gaps_allowed late_supply late_demand all price_in charge tenths plan_bill cycle_bill first shows_full shows_thin shortest shortest_full shortest_thin shortest_stretch pair_of repeats period row in_order comes_first least_start normal_form normalised counted_at too_early over_budget no_place offer_number after later budget_left offer_answer plain_answers
 samples_hold_lem = refl

@@ -4,6 +4,7 @@
 
 use consistency::Unfit;
 use cost::Bill;
+use cycle::margins::{self, Margin};
 use dated::InForce;
 use families::{Family, Scheduled};
 use meter::Meter;
@@ -468,6 +469,66 @@ fn box_plans(rt: &impl Print) -> io::Result<()> {
     Ok(())
 }
 
+// A margin, where there is one: what its stretch holds, and its report's number.
+fn margin(rt: &impl Print, found: Option<Margin>) -> io::Result<()> {
+    match found {
+        Some(m) => print!(rt; " {} {}", m.records, m.report),
+        None => print!(rt; " none"),
+    }
+}
+
+// How close a flat cycle comes to its limits, and how late its reports may be.
+fn leeway(rt: &impl Print, s: Spec, words: &[u16]) -> io::Result<()> {
+    print!(rt; "  margins")?;
+    match margins::margins_of(s, words) {
+        Ok(m) => {
+            margin(rt, m.fullest)?;
+            margin(rt, m.thinnest)?;
+        }
+        Err(refusal) => print!(rt; " refused {}", refusal.number())?,
+    }
+    match tolerance::tolerance(s, words) {
+        Ok(lateness) => println!(rt; ", late by up to {}", lateness),
+        Err(refusal) => println!(rt; ", not even on time {}", refusal.number()),
+    }
+}
+
+// The most tolerant plan, with its lateness.
+fn tolerant_plan(rt: &impl Print, s: Spec) -> io::Result<()> {
+    print!(rt; "  most tolerant plan")?;
+    match tolerance::tolerant_plan(s) {
+        Ok(most) => {
+            print!(rt; " late by up to {}:", most.lateness)?;
+            numbers_of(rt, most.found)?;
+            println!(rt)
+        }
+        Err(refusal) => refused(rt, refusal),
+    }
+}
+
+// The cycles of B with 15, one that obeys, three with a stretch too full or too thin, one with a wrong gap and one with no pairs; cycles with leeway; and
+// plans, of ranges that touch too, of which the first alone would allow less.
+fn leeways(rt: &impl Print) -> io::Result<()> {
+    println!(rt; "Leeway")?;
+    let b = sample((2, 3), (5, 5), (15, 26), (10, 20));
+    leeway(rt, b, &[5, 3, 5, 2])?;
+    leeway(rt, b, &[5, 3, 5, 3, 5, 2, 5, 2])?;
+    leeway(rt, b, &[5, 3, 5, 2, 5, 2, 5, 3])?;
+    leeway(rt, b, &[5, 2, 5, 2, 5, 2, 5, 3])?;
+    leeway(rt, b, &[6, 3, 6, 2])?;
+    leeway(rt, b, &[])?;
+    leeway(rt, shifts(60, 90), &[75, 8])?;
+    leeway(rt, shifts(16, 90), &[40, 4])?;
+    let late = sample((1, 2), (2, 6), (4, 6), (2, 8));
+    leeway(rt, late, &[4, 2])?;
+    tolerant_plan(rt, sample((3, 10), (45, 55), (29, 220), (17, 158)))?;
+    tolerant_plan(rt, b)?;
+    tolerant_plan(rt, sample((2, 3), (5, 5), (14, 26), (10, 20)))?;
+    tolerant_plan(rt, shifts(60, 90))?;
+    tolerant_plan(rt, shifts(16, 90))?;
+    tolerant_plan(rt, late)
+}
+
 // Which of two dated files is in force, and the bytes of its cycle part.
 fn in_force(rt: &impl Print, first: &[u8], second: &[u8]) -> io::Result<()> {
     match dated::in_force(first, second) {
@@ -509,6 +570,7 @@ fn main(rt: HostRuntime) -> io::Result<()> {
     ranges_that_touch(&rt)?;
     late_reports(&rt)?;
     box_plans(&rt)?;
+    leeways(&rt)?;
     normal_forms(&rt)?;
     dated_files(&rt)
 }
