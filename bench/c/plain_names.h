@@ -1,6 +1,6 @@
 /*
  * Included before plain.c where it is linked beside the library: the same
- * twenty-six functions under names of their own.
+ * twenty-nine functions under names of their own.
  */
 #define maxeltu_verdict plain_verdict
 #define maxeltu_consistency plain_consistency
@@ -9,6 +9,7 @@
 #define maxeltu_test plain_test
 #define maxeltu_even_plan plain_even_plan
 #define maxeltu_box_plan plain_box_plan
+#define maxeltu_tolerant_plan plain_tolerant_plan
 #define maxeltu_report plain_report
 #define maxeltu_last_report plain_last_report
 #define maxeltu_nearest_report plain_nearest_report
@@ -17,6 +18,8 @@
 #define maxeltu_check_cycle plain_check_cycle
 #define maxeltu_check_late plain_check_late
 #define maxeltu_shortest_stretch plain_shortest_stretch
+#define maxeltu_margins plain_margins
+#define maxeltu_tolerance plain_tolerance
 #define maxeltu_cycle_cost plain_cycle_cost
 #define maxeltu_normal_form plain_normal_form
 #define maxeltu_read_cycle plain_read_cycle

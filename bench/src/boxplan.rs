@@ -25,7 +25,7 @@ fn none(name: &'static str, lateness: u32, spec: Spec) -> Input {
 }
 
 /// A van by day and by night.
-fn van(supply: (u64, u64)) -> Spec {
+pub fn van(supply: (u64, u64)) -> Spec {
     Spec { second: Some((120, 240)), ..both_rates((1, 50), (30, 90), supply, (130, 1_440)) }
 }
 
@@ -66,7 +66,7 @@ fn least_total(spec: &Spec, late: u64, gap: u64, k: u64) -> Option<u64> {
 }
 
 /// The answer, and the plan.
-fn literal(spec: &Spec, lateness: u32) -> (Refusal, [u32; 3]) {
+pub fn literal(spec: &Spec, lateness: u32) -> (Refusal, [u32; 3]) {
     let late = lateness.into();
     let plan = planned_gaps(spec, late)
         .find_map(|gap| (1..=512).find_map(|k| least_total(spec, late, gap, k).map(|total| [k, k * gap, total])));

@@ -3,9 +3,11 @@
 use reference::Pair;
 
 type TwoFiles = unsafe extern "C" fn(*const u8, usize, *const u8, usize) -> u32;
+type Consistency = unsafe extern "C" fn(*const u8, usize, *mut u32) -> u32;
 type Test = unsafe extern "C" fn(*const u8, usize, *mut u32, *mut u32, *mut u32, *mut u32, *mut u32) -> u32;
 type EvenPlan = unsafe extern "C" fn(*const u8, usize, *mut u32, *mut u32, *mut u32) -> u32;
 type BoxPlan = unsafe extern "C" fn(*const u8, usize, u32, *mut u32, *mut u32, *mut u32) -> u32;
+type TolerantPlan = unsafe extern "C" fn(*const u8, usize, *mut u32, *mut u32, *mut u32, *mut u32) -> u32;
 type Report = unsafe extern "C" fn(u32, u32, u32, u32, u32, *mut u64, *mut u32) -> u32;
 type ReportAt = unsafe extern "C" fn(u32, u32, u32, u32, u32, *mut u32) -> u32;
 type Between = unsafe extern "C" fn(u32, u32, u32, u32, u32, u32, *mut u32, *mut u64) -> u32;
@@ -13,6 +15,8 @@ type PlanCost = unsafe extern "C" fn(u32, u32, u32, u32, u32, *mut u64, *mut u64
 type CheckCycle = unsafe extern "C" fn(*const u8, usize, *const Pair, usize) -> u32;
 type CheckLate = unsafe extern "C" fn(*const u8, usize, *const Pair, usize, u32) -> u32;
 type ShortestStretch = unsafe extern "C" fn(*const u8, usize, *const Pair, usize, *mut u32, *mut u32) -> u32;
+type Margins = unsafe extern "C" fn(*const u8, usize, *const Pair, usize, *mut u64, *mut u32, *mut u64, *mut u32) -> u32;
+type Tolerance = unsafe extern "C" fn(*const u8, usize, *const Pair, usize, *mut u32) -> u32;
 type CycleCost = unsafe extern "C" fn(*const u8, usize, *const Pair, usize, u32, *mut u64, *mut u64) -> u32;
 type NormalForm = unsafe extern "C" fn(*const Pair, usize, *mut Pair, usize, *mut u32) -> u32;
 type ReadCycle = unsafe extern "C" fn(*const u8, usize, *mut Pair, usize, *mut u32) -> u32;
@@ -36,16 +40,19 @@ impl Meter {
 #[rustfmt::skip]
 macro_rules! declare {
     (
-        $verdict:ident $test:ident $even_plan:ident $box_plan:ident $report:ident $last_report:ident $nearest_report:ident
-        $between:ident $plan_cost:ident $check_cycle:ident $check_late:ident $shortest_stretch:ident $cycle_cost:ident
-        $normal_form:ident $read_cycle:ident $write_cycle:ident $write_plan:ident $in_force:ident $make_meter:ident $offer:ident
-        $week_table:ident $calendar_minute:ident $duty_minute:ident
+        $verdict:ident $consistency:ident $test:ident $even_plan:ident $box_plan:ident $tolerant_plan:ident $report:ident
+        $last_report:ident $nearest_report:ident $between:ident $plan_cost:ident $check_cycle:ident $check_late:ident
+        $shortest_stretch:ident $margins:ident $tolerance:ident $cycle_cost:ident $normal_form:ident $read_cycle:ident
+        $write_cycle:ident $write_plan:ident $in_force:ident $make_meter:ident $offer:ident $week_table:ident
+        $calendar_minute:ident $duty_minute:ident
     ) => {
         extern "C" {
             fn $verdict(spec: *const u8, spec_len: usize, cycle: *const u8, cycle_len: usize) -> u32;
+            fn $consistency(spec: *const u8, spec_len: usize, condition: *mut u32) -> u32;
             fn $test(spec: *const u8, spec_len: usize, condition: *mut u32, k: *mut u32, period: *mut u32, total: *mut u32, supply: *mut u32) -> u32;
             fn $even_plan(spec: *const u8, spec_len: usize, k: *mut u32, period: *mut u32, total: *mut u32) -> u32;
             fn $box_plan(spec: *const u8, spec_len: usize, lateness: u32, k: *mut u32, period: *mut u32, total: *mut u32) -> u32;
+            fn $tolerant_plan(spec: *const u8, spec_len: usize, lateness: *mut u32, k: *mut u32, period: *mut u32, total: *mut u32) -> u32;
             fn $report(kind: u32, k: u32, period: u32, total: u32, i: u32, minute: *mut u64, size: *mut u32) -> u32;
             fn $last_report(kind: u32, k: u32, period: u32, total: u32, minute: u32, number: *mut u32) -> u32;
             fn $nearest_report(kind: u32, k: u32, period: u32, total: u32, minute: u32, number: *mut u32) -> u32;
@@ -54,6 +61,8 @@ macro_rules! declare {
             fn $check_cycle(spec: *const u8, spec_len: usize, pairs: *const Pair, count: usize) -> u32;
             fn $check_late(spec: *const u8, spec_len: usize, pairs: *const Pair, count: usize, lateness: u32) -> u32;
             fn $shortest_stretch(spec: *const u8, spec_len: usize, pairs: *const Pair, count: usize, first: *mut u32, reports: *mut u32) -> u32;
+            fn $margins(spec: *const u8, spec_len: usize, pairs: *const Pair, count: usize, most: *mut u64, most_from: *mut u32, least: *mut u64, least_after: *mut u32) -> u32;
+            fn $tolerance(spec: *const u8, spec_len: usize, pairs: *const Pair, count: usize, lateness: *mut u32) -> u32;
             fn $cycle_cost(spec: *const u8, spec_len: usize, pairs: *const Pair, count: usize, reports: u32, tenths: *mut u64, cents: *mut u64) -> u32;
             fn $normal_form(pairs: *const Pair, count: usize, normal: *mut Pair, places: usize, normal_count: *mut u32) -> u32;
             fn $read_cycle(file: *const u8, file_len: usize, pairs: *mut Pair, places: usize, count: *mut u32) -> u32;
@@ -70,23 +79,26 @@ macro_rules! declare {
 }
 
 declare!(
-    maxeltu_verdict maxeltu_test maxeltu_even_plan maxeltu_box_plan maxeltu_report maxeltu_last_report maxeltu_nearest_report
-    maxeltu_between maxeltu_plan_cost maxeltu_check_cycle maxeltu_check_late maxeltu_shortest_stretch maxeltu_cycle_cost
-    maxeltu_normal_form maxeltu_read_cycle maxeltu_write_cycle maxeltu_write_plan maxeltu_in_force maxeltu_make_meter maxeltu_offer
-    maxeltu_week_table maxeltu_calendar_minute maxeltu_duty_minute
+    maxeltu_verdict maxeltu_consistency maxeltu_test maxeltu_even_plan maxeltu_box_plan maxeltu_tolerant_plan maxeltu_report
+    maxeltu_last_report maxeltu_nearest_report maxeltu_between maxeltu_plan_cost maxeltu_check_cycle maxeltu_check_late
+    maxeltu_shortest_stretch maxeltu_margins maxeltu_tolerance maxeltu_cycle_cost maxeltu_normal_form maxeltu_read_cycle
+    maxeltu_write_cycle maxeltu_write_plan maxeltu_in_force maxeltu_make_meter maxeltu_offer maxeltu_week_table
+    maxeltu_calendar_minute maxeltu_duty_minute
 );
 declare!(
-    plain_verdict plain_test plain_even_plan plain_box_plan plain_report plain_last_report plain_nearest_report
-    plain_between plain_plan_cost plain_check_cycle plain_check_late plain_shortest_stretch plain_cycle_cost
-    plain_normal_form plain_read_cycle plain_write_cycle plain_write_plan plain_in_force plain_make_meter plain_offer
-    plain_week_table plain_calendar_minute plain_duty_minute
+    plain_verdict plain_consistency plain_test plain_even_plan plain_box_plan plain_tolerant_plan plain_report
+    plain_last_report plain_nearest_report plain_between plain_plan_cost plain_check_cycle plain_check_late
+    plain_shortest_stretch plain_margins plain_tolerance plain_cycle_cost plain_normal_form plain_read_cycle plain_write_cycle
+    plain_write_plan plain_in_force plain_make_meter plain_offer plain_week_table plain_calendar_minute plain_duty_minute
 );
 
 pub struct Calls {
     verdict: TwoFiles,
+    consistency: Consistency,
     test: Test,
     even_plan: EvenPlan,
     box_plan: BoxPlan,
+    tolerant_plan: TolerantPlan,
     report: Report,
     last_report: ReportAt,
     nearest_report: ReportAt,
@@ -95,6 +107,8 @@ pub struct Calls {
     check_cycle: CheckCycle,
     check_late: CheckLate,
     shortest_stretch: ShortestStretch,
+    margins: Margins,
+    tolerance: Tolerance,
     cycle_cost: CycleCost,
     normal_form: NormalForm,
     read_cycle: ReadCycle,
@@ -110,9 +124,11 @@ pub struct Calls {
 
 pub const LIBRARY: Calls = Calls {
     verdict: maxeltu_verdict,
+    consistency: maxeltu_consistency,
     test: maxeltu_test,
     even_plan: maxeltu_even_plan,
     box_plan: maxeltu_box_plan,
+    tolerant_plan: maxeltu_tolerant_plan,
     report: maxeltu_report,
     last_report: maxeltu_last_report,
     nearest_report: maxeltu_nearest_report,
@@ -121,6 +137,8 @@ pub const LIBRARY: Calls = Calls {
     check_cycle: maxeltu_check_cycle,
     check_late: maxeltu_check_late,
     shortest_stretch: maxeltu_shortest_stretch,
+    margins: maxeltu_margins,
+    tolerance: maxeltu_tolerance,
     cycle_cost: maxeltu_cycle_cost,
     normal_form: maxeltu_normal_form,
     read_cycle: maxeltu_read_cycle,
@@ -136,9 +154,11 @@ pub const LIBRARY: Calls = Calls {
 
 pub const PLAIN_C: Calls = Calls {
     verdict: plain_verdict,
+    consistency: plain_consistency,
     test: plain_test,
     even_plan: plain_even_plan,
     box_plan: plain_box_plan,
+    tolerant_plan: plain_tolerant_plan,
     report: plain_report,
     last_report: plain_last_report,
     nearest_report: plain_nearest_report,
@@ -147,6 +167,8 @@ pub const PLAIN_C: Calls = Calls {
     check_cycle: plain_check_cycle,
     check_late: plain_check_late,
     shortest_stretch: plain_shortest_stretch,
+    margins: plain_margins,
+    tolerance: plain_tolerance,
     cycle_cost: plain_cycle_cost,
     normal_form: plain_normal_form,
     read_cycle: plain_read_cycle,
@@ -166,21 +188,37 @@ impl Calls {
         unsafe { (self.verdict)(spec.as_ptr(), spec.len(), cycle.as_ptr(), cycle.len()) }
     }
 
-    pub fn test(&self, spec: &[u8]) -> u32 {
+    pub fn consistency(&self, spec: &[u8]) -> u32 {
+        let mut condition = 0;
+        unsafe { (self.consistency)(spec.as_ptr(), spec.len(), &mut condition) }
+    }
+
+    /// The answer, and where it is 0 k, period and total, else 0 thrice; so too of the other plans.
+    pub fn test(&self, spec: &[u8]) -> (u32, [u32; 3]) {
         let [mut condition, mut k, mut period, mut total, mut supply] = [0; 5];
-        unsafe { (self.test)(spec.as_ptr(), spec.len(), &mut condition, &mut k, &mut period, &mut total, &mut supply) }
+        let (at, len) = (spec.as_ptr(), spec.len());
+        let answer = unsafe { (self.test)(at, len, &mut condition, &mut k, &mut period, &mut total, &mut supply) };
+        (answer, [k, period, total])
     }
 
-    pub fn even_plan(&self, spec: &[u8]) -> u32 {
+    pub fn even_plan(&self, spec: &[u8]) -> (u32, [u32; 3]) {
         let [mut k, mut period, mut total] = [0; 3];
-        unsafe { (self.even_plan)(spec.as_ptr(), spec.len(), &mut k, &mut period, &mut total) }
+        let answer = unsafe { (self.even_plan)(spec.as_ptr(), spec.len(), &mut k, &mut period, &mut total) };
+        (answer, [k, period, total])
     }
 
-    /// The answer, and where it is 0 k, period and total, else 0 thrice.
     pub fn box_plan(&self, spec: &[u8], lateness: u32) -> (u32, [u32; 3]) {
         let [mut k, mut period, mut total] = [0; 3];
         let answer = unsafe { (self.box_plan)(spec.as_ptr(), spec.len(), lateness, &mut k, &mut period, &mut total) };
         (answer, [k, period, total])
+    }
+
+    /// Its lateness stands before the plan.
+    pub fn tolerant_plan(&self, spec: &[u8]) -> (u32, u32, [u32; 3]) {
+        let [mut lateness, mut k, mut period, mut total] = [0; 4];
+        let (at, len) = (spec.as_ptr(), spec.len());
+        let answer = unsafe { (self.tolerant_plan)(at, len, &mut lateness, &mut k, &mut period, &mut total) };
+        (answer, lateness, [k, period, total])
     }
 
     pub fn report(&self, kind: u32, [k, period, total]: [u32; 3], i: u32) -> u32 {
@@ -230,6 +268,21 @@ impl Calls {
         let (at, list) = (spec.as_ptr(), pairs.as_ptr());
         let answer = unsafe { (self.shortest_stretch)(at, spec.len(), list, pairs.len(), &mut first, &mut reports) };
         (answer, [first, reports])
+    }
+
+    /// The answer, and where it is 0 the most and the least, each with its report, else 0 and 0; so too of a rate that is absent.
+    pub fn margins(&self, spec: &[u8], pairs: &[Pair]) -> (u32, [(u64, u32); 2]) {
+        let (mut most, mut from, mut least, mut after) = (0, 0, 0, 0);
+        let (at, list, len) = (spec.as_ptr(), pairs.as_ptr(), pairs.len());
+        let answer = unsafe { (self.margins)(at, spec.len(), list, len, &mut most, &mut from, &mut least, &mut after) };
+        (answer, [(most, from), (least, after)])
+    }
+
+    /// The answer, and where it is 0 the lateness, else 0.
+    pub fn tolerance(&self, spec: &[u8], pairs: &[Pair]) -> (u32, u32) {
+        let mut lateness = 0;
+        let answer = unsafe { (self.tolerance)(spec.as_ptr(), spec.len(), pairs.as_ptr(), pairs.len(), &mut lateness) };
+        (answer, lateness)
     }
 
     /// Tenths and cents, of a cycle that is passed.

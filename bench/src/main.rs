@@ -1,4 +1,5 @@
 //! The same inputs through the library, the plain C version and the literal reference: times and ratios. Never a test.
+//! With the word leeway, a seed and a number of specifications: tables of the plans that the library finds (survey.rs).
 
 mod boxplan;
 mod calls;
@@ -6,10 +7,16 @@ mod costs;
 mod dated;
 mod duty;
 mod late;
+mod margins;
 mod meters;
 mod moments;
 mod normal;
+// Only some of its numbers are drawn here.
+#[allow(dead_code)]
+#[path = "../../tests/compare/src/random.rs"]
+mod random;
 mod shortest;
+mod survey;
 mod windows;
 
 use calls::{Calls, LIBRARY, PLAIN_C};
@@ -170,7 +177,7 @@ fn plans() {
     ];
     for (name, spec) in inputs {
         let spec_file = spec::write(&spec);
-        line(name, |calls| calls.test(&spec_file), || literal_test(&spec_file));
+        line(name, |calls| calls.test(&spec_file).0, || literal_test(&spec_file));
     }
     let none = both_rates((2, 1_000), (1, 20_160), (1, 20_160), (20_000, 20_160));
     let even_inputs = [
@@ -183,12 +190,12 @@ fn plans() {
     for (name, spec) in even_inputs {
         let spec_file = spec::write(&spec);
         let literal = || even::even_plan(&spec::read(&spec_file).unwrap(), even::counts_fit).err().unwrap_or(0);
-        line(name, |calls| calls.even_plan(&spec_file), literal);
+        line(name, |calls| calls.even_plan(&spec_file).0, literal);
     }
     let searched = both_rates((2, 3), (5, 5), (15, 26), (10, 20));
     let spec_file = spec::write(&searched);
     let literal = || even::even_plan(&spec::read(&spec_file).unwrap(), even::list_exists).err().unwrap_or(0);
-    line("even plan, sample B with 15, size lists searched", |calls| calls.even_plan(&spec_file), literal);
+    line("even plan, sample B with 15, size lists searched", |calls| calls.even_plan(&spec_file).0, literal);
 }
 
 fn reports() {
@@ -204,7 +211,7 @@ fn reports() {
     }
 }
 
-fn main() {
+fn measure() {
     println!(
         "{:<60} {:>10} {:>10} {:>10} {:>10} {:>12}",
         "one call", "library", "plain C", "literal", "library/C", "literal/lib."
@@ -217,6 +224,7 @@ fn main() {
     costs::all();
     late::all();
     shortest::all();
+    margins::all();
     normal::all();
     dated::all();
     meters::all();
@@ -224,6 +232,19 @@ fn main() {
     windows::all();
     late::against_check();
     shortest::against_check();
+    margins::against_check();
+    margins::against_late();
     duty::against_near();
     normal::against_64();
+}
+
+fn main() {
+    let mut arguments = std::env::args().skip(1);
+    match arguments.next().as_deref() {
+        Some("leeway") => {
+            let mut number = |default| arguments.next().map_or(default, |number| number.parse().expect("a number"));
+            survey::all(number(1), number(100_000) as usize);
+        }
+        _ => measure(),
+    }
 }

@@ -2,8 +2,8 @@
 //! number of reports, from every report of two rounds on. In the last lines the call is measured against its check alone.
 
 use crate::calls::{Calls, LIBRARY, PLAIN_C};
-use crate::windows::{heading, row};
-use crate::{both_rates, changing, coin, in_turn, line, times};
+use crate::windows::{heading, line_against};
+use crate::{both_rates, changing, coin, in_turn, line};
 use reference::{cycle, shortest, spec, Pair, Refusal, Spec};
 use std::hint::black_box;
 
@@ -98,21 +98,16 @@ pub fn all() {
     }
 }
 
-/// One line: the call on each side, and its ratio to that side's check of the same cycle.
 fn against_its_check(input: &Input) {
     let (spec_file, pairs) = (spec::write(&input.spec), &input.cycles[0]);
-    let call = |side: usize, way: usize| match (side, way) {
+    line_against(&name(input), |side, way| match (side, way) {
         (0, 0) => LIBRARY.check_cycle(&spec_file, pairs),
         (0, _) => LIBRARY.shortest_stretch(&spec_file, pairs).0,
         (1, 0) => PLAIN_C.check_cycle(&spec_file, pairs),
         (1, _) => PLAIN_C.shortest_stretch(&spec_file, pairs).0,
         (_, 0) => cycle::check(&spec::read(&spec_file).unwrap(), pairs),
         _ => black_box(literal(&spec::read(&spec_file).unwrap(), pairs)).0,
-    };
-    let call = &call;
-    let calls: [_; 6] = std::array::from_fn(|i| move || call(i / 2, i % 2));
-    let times = times(calls.each_ref().map(|call| call as &dyn Fn() -> u32));
-    row(&name(input), [1, 3, 5].map(|i| (times[i], times[i] / times[i - 1])));
+    });
 }
 
 pub fn against_check() {

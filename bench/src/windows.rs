@@ -37,6 +37,14 @@ pub fn lines(names: [String; 3], call: impl Fn(usize, usize) -> u32) {
     }
 }
 
+/// One line, for the second of two ways to make a call: the time of each side, and its ratio to that side's time with the first.
+pub fn line_against(name: &str, call: impl Fn(usize, usize) -> u32) {
+    let call = &call;
+    let calls: [_; 6] = std::array::from_fn(|i| move || call(i / 2, i % 2));
+    let times = times(calls.each_ref().map(|call| call as &dyn Fn() -> u32));
+    row(name, [1, 3, 5].map(|i| (times[i], times[i] / times[i - 1])));
+}
+
 /// The check of so many pairs, and the loader's call on their files, with the rate that `specification` gives each window.
 fn checks(name: &str, count: u64, specification: impl Fn(u64) -> Spec) {
     let specs = WINDOWS.map(|(_, minutes)| specification(minutes));
