@@ -1,5 +1,5 @@
 /*
- * The twenty-six calls from C, through include/maxeltu.h: the samples, every
+ * The twenty-nine calls from C, through include/maxeltu.h: the samples, every
  * refusal of every call, and the places that a call must leave as they were.
  *
  * Prints a line for each group, whose name starts with the argument if there is
@@ -184,6 +184,28 @@ static uint32_t shortest_stretch(struct spec_file s, const struct maxeltu_pair *
     return maxeltu_shortest_stretch(SPEC(s), cycle, count, &places[1], &places[3]);
 }
 
+/* The most and the least come to the places of tenths and cents, and the numbers of their reports to the second place and the fourth. */
+static uint32_t margins(struct spec_file s, const struct maxeltu_pair *cycle, size_t count)
+{
+    fill_bill();
+    fill_places();
+    return maxeltu_margins(SPEC(s), cycle, count, &bill[1], &places[1], &bill[2], &places[3]);
+}
+
+/* The lateness comes to the third place. */
+static uint32_t tolerance(struct spec_file s, const struct maxeltu_pair *cycle, size_t count)
+{
+    fill_places();
+    return maxeltu_tolerance(SPEC(s), cycle, count, &places[2]);
+}
+
+/* The lateness comes to the first place, k, the period and the total to the last three. */
+static uint32_t tolerant_plan(struct spec_file s)
+{
+    fill_places();
+    return maxeltu_tolerant_plan(SPEC(s), &places[0], &places[2], &places[3], &places[4]);
+}
+
 /* A meter between numbers that no call may touch; `former` is what it held before the last call. */
 static struct {
     uint32_t before[4];
@@ -328,7 +350,7 @@ static bool stretch_holds(uint32_t first, uint32_t reports)
 }
 
 /* The check of a cycle, which the loader's call must repeat of its file, and which with lateness 0 is the same; it also says whether
- * the reports have a cost, and whether some show why it is refused. */
+ * the reports have a cost, whether some show why it is refused, whether any may be late, and, but for its rates, whether there are margins. */
 static uint32_t check_pairs(struct spec_file s, size_t count, const struct maxeltu_pair *cycle)
 {
     uint8_t file[MAXELTU_MAX_CYCLE_FILE];
@@ -340,6 +362,10 @@ static uint32_t check_pairs(struct spec_file s, size_t count, const struct maxel
     CHECK(cycle_cost(s, cycle, count, UINT32_MAX) == answer && bill_untouched() == (answer != 0));
     CHECK(shortest_stretch(s, cycle, count) == answer);
     CHECK(untouched() == (answer != MAXELTU_TOO_FULL && answer != MAXELTU_TOO_THIN));
+    CHECK(tolerance(s, cycle, count) == answer && untouched() == (answer != 0));
+    bool rated = answer == MAXELTU_TOO_FULL || answer == MAXELTU_TOO_THIN;
+    CHECK(margins(s, cycle, count) == (rated ? MAXELTU_OK : answer));
+    CHECK(answer == 0 || rated || (untouched() && bill_untouched()));
     return answer;
 }
 
@@ -628,6 +654,153 @@ static void long_stretches(void)
     end();
 }
 
+/* ---- leeway ---- */
+
+/* A cycle has these margins; of a rate that is absent what the places held. */
+static bool margins_are(struct spec_file s, const struct maxeltu_pair *cycle, size_t count, uint64_t most, uint32_t from, uint64_t least,
+                        uint32_t after)
+{
+    return margins(s, cycle, count) == MAXELTU_OK && bill_holds(most, least) && hold(4, held[0], from, held[2], after);
+}
+
+static bool most_is(struct spec_file s, const struct maxeltu_pair *cycle, size_t count, uint64_t most, uint32_t from)
+{
+    return margins_are(s, cycle, count, most, from, bill_held[2], held[3]);
+}
+
+static bool least_is(struct spec_file s, const struct maxeltu_pair *cycle, size_t count, uint64_t least, uint32_t after)
+{
+    return margins_are(s, cycle, count, bill_held[1], held[1], least, after);
+}
+
+static bool no_margins(struct spec_file s, const struct maxeltu_pair *cycle, size_t count, uint32_t refusal)
+{
+    return margins(s, cycle, count) == refusal && untouched() && bill_untouched();
+}
+
+static bool tolerance_is(struct spec_file s, const struct maxeltu_pair *cycle, size_t count, uint32_t lateness)
+{
+    return tolerance(s, cycle, count) == MAXELTU_OK && hold(3, held[0], held[1], lateness);
+}
+
+static bool no_tolerance(struct spec_file s, const struct maxeltu_pair *cycle, size_t count, uint32_t refusal)
+{
+    return tolerance(s, cycle, count) == refusal && untouched();
+}
+
+static void samples_of_margins(void)
+{
+    begin("margins: samples");
+    static const struct maxeltu_pair good[] = { { 5, 3 }, { 5, 2 } }, thin[] = { { 5, 2 }, { 5, 2 }, { 5, 2 }, { 5, 3 } };
+    static const struct maxeltu_pair full[] = { { 5, 3 }, { 5, 3 }, { 5, 2 }, { 5, 2 } };
+    static const struct maxeltu_pair shift[] = { { 15, 5 }, { 15, 5 }, { 5, 4 }, { 90, 8 }, { 60, 8 } };
+    static const struct maxeltu_pair a[] = { { 52, 6 }, { 53, 6 }, { 53, 5 } };
+    CHECK(margins_are(sample_b(15), good, 2, 15, 0, 10, 0));
+    CHECK(margins_are(sample_b(15), full, 4, 16, 0, 10, 0) && margins_are(sample_b(15), thin, 4, 14, 2, 9, 0));
+    CHECK(margins_are(sample_a(29), a, 3, 29, 0, 17, 0) && margins_are(sample_a(28), a, 3, 29, 0, 17, 0));
+    CHECK(margins_are(two_shifts(60, 90), shift, 5, 22, 0, 8, 2));
+    end();
+}
+
+/* Two reports in turn, the gaps after them 10 minutes and 9. */
+static void bounds_of_margins(void)
+{
+    begin("margins: R and P, and rates that are absent");
+    static const struct maxeltu_pair two[] = { { 10, 5 }, { 9, 4 } };
+    for (int r = 1; r < 20; r++)
+        CHECK(most_is(spec_of(7, 6, 1, 9, 1, 99, 1, r), two, 2, r < 10 ? 5 : 9, r == 10));
+    for (int p = 1; p < 20; p++)
+        CHECK(least_is(spec_of(11, 6, 1, 9, 1, 99, 9, p), two, 2, p < 10 ? 0 : p < 19 ? 4 : 9, 0));
+    static const struct maxeltu_pair turned[] = { { 9, 4 }, { 10, 5 } };
+    for (int p = 1; p < 20; p++)
+        CHECK(least_is(spec_of(11, 6, 1, 9, 1, 99, 9, p), turned, 2, p < 10 ? 0 : p < 19 ? 4 : 9, (p >= 9 && p < 19)));
+    CHECK(margins_are(spec_of(3, 4, 1, 9, 1, 99), two, 2, bill_held[1], held[1], bill_held[2], held[3]));
+    CHECK(margins_are(spec_of(19, 6, 1, 9, 1, 99, 1, 60), two, 2, bill_held[1], held[1], bill_held[2], held[3]));
+    CHECK(margins_are(spec_of(15, 8, 1, 9, 1, 99, 1, 10, 9, 9), two, 2, 9, 1, 0, 0));
+    end();
+}
+
+/* 512 reports of 1,000 records, each minute one; and the last of them longer before the next. */
+static void large_margins(void)
+{
+    begin("margins: 512 pairs, and more than 16 bits");
+    struct maxeltu_pair cycle[MAXELTU_MAX_PAIRS + 1], wide = { 20160, 1000 };
+    for (size_t i = 0; i < MAXELTU_MAX_PAIRS + 1; i++)
+        cycle[i] = (struct maxeltu_pair){ .gap = 1, .size = 1000 };
+    struct spec_file longest = spec_of(15, 8, 1, 1000, 1, 20160, 1, 20160, 20000, 20160);
+    CHECK(margins_are(longest, cycle, 1, 20160000, 0, 20160000, 0));
+    CHECK(margins_are(longest, cycle, MAXELTU_MAX_PAIRS, 20160000, 0, 20160000, 0));
+    cycle[MAXELTU_MAX_PAIRS - 1].gap = 20160;
+    CHECK(margins_are(longest, cycle, MAXELTU_MAX_PAIRS, 512000, 0, 1000, 510));
+    CHECK(least_is(spec_of(11, 6, 1, 1000, 1, 20160, 1, 20159), cycle, MAXELTU_MAX_PAIRS, 0, 511));
+    CHECK(margins_are(longest, &wide, 1, 1000, 0, 1000, 0));
+    end();
+}
+
+static void refusals_of_margins(void)
+{
+    begin("margins: refusals 12 to 14");
+    struct spec_file s = sample_b(15);
+    static const struct maxeltu_pair wrong[MAXELTU_MAX_PAIRS + 1];
+    CHECK(no_margins(s, wrong, 0, MAXELTU_COUNT) && no_margins(s, wrong, MAXELTU_MAX_PAIRS + 1, MAXELTU_COUNT));
+    /* In 16 bits this would be one pair, which is right. */
+    CHECK(no_margins(s, (struct maxeltu_pair[]){ { 5, 3 } }, 65537, MAXELTU_COUNT));
+    CHECK(no_margins(s, wrong, 1, MAXELTU_GAP) && no_margins(s, wrong, MAXELTU_MAX_PAIRS, MAXELTU_GAP));
+    CHECK(no_margins(s, (struct maxeltu_pair[]){ { 5, 3 }, { 6, 4 } }, 2, MAXELTU_GAP));
+    CHECK(no_margins(s, (struct maxeltu_pair[]){ { 5, 3 }, { 5, 4 } }, 2, MAXELTU_SIZE));
+    CHECK(no_margins(two_shifts(60, 90), (struct maxeltu_pair[]){ { 15, 5 }, { 16, 5 } }, 2, MAXELTU_GAP));
+    end();
+}
+
+static void samples_of_tolerances(void)
+{
+    begin("tolerances: samples");
+    static const struct maxeltu_pair good = { 4, 2 }, full = { 3, 2 }, thin = { 4, 1 }, shift = { 15, 4 };
+    CHECK(tolerance_is(late_spec(), &good, 1, 2) && tolerance_is(late_spec(), &full, 1, 0) && tolerance_is(late_spec(), &thin, 1, 0));
+    CHECK(tolerance_is(two_shifts(16, 90), &shift, 1, 10) && tolerance_is(two_shifts(60, 90), &shift, 1, 0));
+    /* What lies between the ranges is in none, though the ends are in either. */
+    CHECK(tolerance_is(spec_of(35, 6, 1, 10, 5, 50, 60, 90), &(struct maxeltu_pair){ .gap = 40, .size = 4 }, 1, 10));
+    /* Of both ranges: 5 minutes is what the first pair has room for, 7 the second. */
+    CHECK(tolerance_is(spec_of(35, 6, 1, 10, 5, 15, 16, 90), (struct maxeltu_pair[]){ { 10, 4 }, { 12, 4 } }, 2, 5));
+    CHECK(tolerance_is(spec_of(35, 6, 1, 10, 5, 15, 16, 90), (struct maxeltu_pair[]){ { 12, 4 }, { 13, 4 } }, 2, 7));
+    end();
+}
+
+/* By the ends of the range, by R and by P. */
+static void every_tolerance(void)
+{
+    begin("tolerances: each from 0 to 1,440");
+    struct spec_file any_gap = spec_of(3, 4, 1, 1000, 1, 20160);
+    struct maxeltu_pair pair = { 2000, 10 };
+    for (uint32_t lateness = 0; lateness <= MAXELTU_MAX_LATENESS; lateness++) {
+        struct maxeltu_pair lower = { (uint16_t)(lateness + 1), 10 }, upper = { (uint16_t)(20160 - lateness), 10 };
+        CHECK(tolerance_is(any_gap, &lower, 1, lateness) && tolerance_is(any_gap, &upper, 1, lateness));
+        CHECK(tolerance_is(spec_of(7, 6, 1, 1000, 1, 20160, 10, (int)(2000 - lateness)), &pair, 1, lateness));
+        CHECK(tolerance_is(spec_of(11, 6, 1, 1000, 1, 20160, 10, (int)(2000 + lateness)), &pair, 1, lateness));
+    }
+    CHECK(tolerance_is(any_gap, &(struct maxeltu_pair){ .gap = 1442, .size = 10 }, 1, MAXELTU_MAX_LATENESS));
+    CHECK(tolerance_is(any_gap, &(struct maxeltu_pair){ .gap = 18719, .size = 10 }, 1, MAXELTU_MAX_LATENESS));
+    end();
+}
+
+static void refusals_of_tolerances(void)
+{
+    begin("tolerances: refusals 12 to 16");
+    struct spec_file s = sample_b(15);
+    static const struct maxeltu_pair wrong[MAXELTU_MAX_PAIRS + 1];
+    CHECK(no_tolerance(s, wrong, 0, MAXELTU_COUNT) && no_tolerance(s, wrong, MAXELTU_MAX_PAIRS + 1, MAXELTU_COUNT));
+    CHECK(no_tolerance(late_spec(), (struct maxeltu_pair[]){ { 4, 2 } }, 65537, MAXELTU_COUNT));
+    CHECK(no_tolerance(s, wrong, 1, MAXELTU_GAP) && no_tolerance(s, wrong, MAXELTU_MAX_PAIRS, MAXELTU_GAP));
+    CHECK(no_tolerance(s, (struct maxeltu_pair[]){ { 5, 3 }, { 5, 4 } }, 2, MAXELTU_SIZE));
+    CHECK(no_tolerance(s, (struct maxeltu_pair[]){ { 5, 3 } }, 1, MAXELTU_TOO_FULL));
+    CHECK(no_tolerance(s, (struct maxeltu_pair[]){ { 5, 2 } }, 1, MAXELTU_TOO_THIN));
+    /* A minute late the gap of these would be wrong. */
+    CHECK(no_tolerance(late_spec(), (struct maxeltu_pair[]){ { 2, 3 } }, 1, MAXELTU_SIZE));
+    CHECK(no_tolerance(late_spec(), (struct maxeltu_pair[]){ { 2, 2 } }, 1, MAXELTU_TOO_FULL));
+    CHECK(no_tolerance(late_spec(), (struct maxeltu_pair[]){ { 6, 1 } }, 1, MAXELTU_TOO_THIN));
+    end();
+}
+
 /* ---- refusals ---- */
 
 /* Every call that takes a specification answers this, and writes nothing. */
@@ -650,6 +823,11 @@ static void refused_everywhere(struct spec_file s, uint32_t refusal)
     CHECK(maxeltu_check_late(SPEC(s), &pair, 0, UINT32_MAX) == refusal);
     CHECK(shortest_stretch(s, &pair, 1) == refusal && untouched());
     CHECK(shortest_stretch(s, &pair, 0) == refusal && untouched());
+    CHECK(margins(s, &pair, 1) == refusal && untouched() && bill_untouched());
+    CHECK(margins(s, &pair, 0) == refusal && untouched() && bill_untouched());
+    CHECK(tolerance(s, &pair, 1) == refusal && untouched());
+    CHECK(tolerance(s, &pair, 0) == refusal && untouched());
+    CHECK(tolerant_plan(s) == refusal && untouched());
     CHECK(cycle_cost(s, &pair, 1, 0) == refusal && bill_untouched());
     CHECK(cycle_cost(s, &pair, 0, 4) == refusal && bill_untouched());
     fill_meter(0x5A);
@@ -982,10 +1160,12 @@ static void longest_cycle(void)
     fill_pairs();
     CHECK(maxeltu_check_cycle(SPEC(wide), pairs, MAXELTU_MAX_PAIRS + 1) == MAXELTU_COUNT);
     CHECK(shortest_stretch(wide, pairs, MAXELTU_MAX_PAIRS + 1) == MAXELTU_COUNT && untouched());
+    CHECK(no_margins(wide, pairs, MAXELTU_MAX_PAIRS + 1, MAXELTU_COUNT) && no_tolerance(wide, pairs, MAXELTU_MAX_PAIRS + 1, MAXELTU_COUNT));
     /* Its gaps are 100 to 106. */
     CHECK(maxeltu_check_late(SPEC(wide), cycle, MAXELTU_MAX_PAIRS, 99) == 0);
     CHECK(maxeltu_check_late(SPEC(wide), cycle, MAXELTU_MAX_PAIRS, 100) == MAXELTU_GAP);
     CHECK(maxeltu_check_late(SPEC(wide), pairs, MAXELTU_MAX_PAIRS + 1, 99) == MAXELTU_COUNT);
+    CHECK(tolerance_is(wide, cycle, MAXELTU_MAX_PAIRS, 99));
     end();
 }
 
@@ -1154,6 +1334,67 @@ static void refusals_of_box_plans(void)
         CHECK(plan_refused(MAXELTU_COUNT, MAXELTU_WELL_FORMED, 513, 514, 514, rooms[r]));
         CHECK(plan_refused(MAXELTU_COUNT, MAXELTU_EVEN, 20160, 406425600, 20160000, rooms[r]));
     }
+    end();
+}
+
+/* ---- the most tolerant plan ---- */
+
+static bool tolerant_plan_is(struct spec_file s, uint32_t lateness, uint32_t k, uint32_t period, uint32_t total)
+{
+    return tolerant_plan(s) == MAXELTU_OK && hold(5, lateness, held[1], k, period, total);
+}
+
+static bool no_tolerant_plan(struct spec_file s, uint32_t refusal)
+{
+    return tolerant_plan(s) == refusal && untouched();
+}
+
+static void samples_of_tolerant_plans(void)
+{
+    begin("most tolerant plans: samples");
+    CHECK(tolerant_plan_is(sample_a(29), 5, 3, 150, 17) && tolerant_plan_is(sample_b(15), 0, 2, 10, 5));
+    CHECK(tolerant_plan_is(sample_b(16), 0, 2, 10, 5) && tolerant_plan_is(sample_e(), 0, 1, 79, 9));
+    CHECK(tolerant_plan_is(late_spec(), 2, 1, 4, 2));
+    CHECK(tolerant_plan_is(two_shifts(60, 90), 15, 1, 75, 8) && tolerant_plan_is(two_shifts(16, 90), 40, 1, 50, 8));
+    /* The first range has more room than the second. */
+    CHECK(tolerant_plan_is(spec_of(35, 6, 3, 7, 5, 50, 60, 90), 22, 1, 28, 3));
+    CHECK(tolerant_plan_is(spec_of(15, 8, 1, 2, 1, 1, 513, 512, 513, 512), 0, 512, 512, 513));
+    end();
+}
+
+/* Its cycle, written out and read, has just its lateness; and a box plan for a minute more there is not. */
+static void cycles_of_tolerant_plans(void)
+{
+    begin("most tolerant plans: written out and read");
+    struct spec_file specs[] = { sample_a(29), sample_b(15), sample_e(), late_spec(), two_shifts(60, 90), two_shifts(16, 90) };
+    for (size_t i = 0; i < sizeof specs / sizeof *specs; i++) {
+        CHECK(tolerant_plan(specs[i]) == MAXELTU_OK);
+        uint32_t lateness = places[0], k = places[2], period = places[3], total = places[4];
+        CHECK(box_plan_is(specs[i], lateness, k, period, total) && no_box_plan(specs[i], lateness + 1, MAXELTU_NO_BOX_PLAN));
+        CHECK(write_plan(MAXELTU_EVEN, k, period, total, sizeof room) == MAXELTU_OK && only_length_written());
+        CHECK(read_cycle(room, places[1], MAXELTU_MAX_PAIRS) == MAXELTU_OK && hold(1, k));
+        CHECK(tolerance_is(specs[i], pairs, k, lateness));
+    }
+    end();
+}
+
+static void every_tolerant_plan(void)
+{
+    begin("most tolerant plans: each lateness from 0 to 1,440");
+    for (uint32_t lateness = 0; lateness <= MAXELTU_MAX_LATENESS; lateness++)
+        CHECK(tolerant_plan_is(spec_of(3, 4, 3, 7, 3, (int)(3 + 2 * lateness)), lateness, 1, 3 + lateness, 3));
+    CHECK(tolerant_plan_is(spec_of(3, 4, 3, 7, 3, 2884), MAXELTU_MAX_LATENESS, 1, 1444, 3));
+    CHECK(tolerant_plan_is(spec_of(3, 4, 3, 7, 1, 20160), MAXELTU_MAX_LATENESS, 1, 18720, 3));
+    end();
+}
+
+static void refusals_of_tolerant_plans(void)
+{
+    begin("most tolerant plans: refusal 30");
+    CHECK(no_tolerant_plan(sample_b(14), MAXELTU_NO_BOX_PLAN) && no_tolerant_plan(sample_a(28), MAXELTU_NO_BOX_PLAN));
+    CHECK(no_tolerant_plan(sample_c(), MAXELTU_NO_BOX_PLAN) && no_tolerant_plan(sample_d(), MAXELTU_NO_BOX_PLAN));
+    CHECK(no_tolerant_plan(sample_f(), MAXELTU_NO_BOX_PLAN));
+    CHECK(no_tolerant_plan(spec_of(15, 8, 1, 2, 1, 1, 514, 513, 514, 513), MAXELTU_NO_BOX_PLAN));
     end();
 }
 
@@ -1930,6 +2171,9 @@ static void null_for_empty(void)
     CHECK(maxeltu_check_cycle(SPEC(b15), NULL, 0) == MAXELTU_COUNT);
     CHECK(maxeltu_check_late(SPEC(b15), NULL, 0, 10) == MAXELTU_COUNT);
     CHECK(maxeltu_shortest_stretch(SPEC(b15), NULL, 0, &places[0], &places[1]) == MAXELTU_COUNT);
+    CHECK(maxeltu_tolerance(SPEC(b15), NULL, 0, &places[0]) == MAXELTU_COUNT);
+    CHECK(maxeltu_tolerant_plan(NULL, 0, &places[0], &places[1], &places[2], &places[3]) == MAXELTU_SPEC_MAP);
+    CHECK(no_margins(b15, NULL, 0, MAXELTU_COUNT));
     CHECK(cycle_cost(b15, NULL, 0, 4) == MAXELTU_COUNT && bill_untouched());
     CHECK(maxeltu_normal_form(NULL, 0, NULL, 0, &places[0]) == MAXELTU_COUNT);
     CHECK(maxeltu_normal_form(&(struct maxeltu_pair){ .gap = 5, .size = 2 }, 1, NULL, 0, &places[0]) == MAXELTU_NO_ROOM);
@@ -1962,6 +2206,13 @@ int main(int argc, char **argv)
     samples_of_stretches();
     bounds_of_stretches();
     long_stretches();
+    samples_of_margins();
+    bounds_of_margins();
+    large_margins();
+    refusals_of_margins();
+    samples_of_tolerances();
+    every_tolerance();
+    refusals_of_tolerances();
     refusals_of_specifications();
     refusals_of_two_ranges();
     refusals_of_plans();
@@ -1976,6 +2227,10 @@ int main(int argc, char **argv)
     checked_cycle_files();
     written_plans();
     refusals_of_box_plans();
+    samples_of_tolerant_plans();
+    cycles_of_tolerant_plans();
+    every_tolerant_plan();
+    refusals_of_tolerant_plans();
     samples_of_normal_forms();
     turns_of_normal_forms();
     long_normal_forms();

@@ -1,12 +1,14 @@
 /*
- * How many bytes of stack each call over a cycle needs. It runs on a stack of
- * its own that was painted before. The call's need is how far below the top its
- * deepest written byte lies, less the same of a call that does nothing.
+ * How many bytes of stack each call over a cycle needs, and the most tolerant
+ * plan. It runs on a stack of its own that was painted before. The call's need is
+ * how far below the top its deepest written byte lies, less the same of a call
+ * that does nothing.
  *
  * Each must need less than two unpacked cycles, each of 1,024 16-bit words: then
- * none holds a cycle twice. A normal form is found with no copy of the cycle: it
- * must need less than a quarter of one. Which of two dated files is in force is
- * told with no pair stored: it must need less than an eighth.
+ * none holds a cycle twice. The most tolerant plan is found with no cycle: it must
+ * need less than half of one. A normal form is found with no copy of the cycle: it
+ * must need less than a quarter. Which of two dated files is in force is told with
+ * no pair stored: it must need less than an eighth.
  *
  * Prints a line for each call, and at the end 'N passed, M failed'. Exit status
  * 0 if none failed.
@@ -87,11 +89,12 @@ static const struct input inputs[] = {
 };
 
 /* What the calls are lent: the input, as bytes and as pairs, also twice with an issue day before it, and room to read and to write a
- * cycle. */
+ * cycle; and B and L. */
 static uint8_t spec_file[1 + 2 * 10], cycle_file[2 + 5 * (MAXELTU_MAX_PAIRS + 1)], bytes[MAXELTU_MAX_CYCLE_FILE];
 static uint8_t dated_files[2][2 + sizeof cycle_file];
 static struct maxeltu_pair pairs[MAXELTU_MAX_PAIRS + 1], places[MAXELTU_MAX_PAIRS];
 static size_t count, cycle_length;
+static uint64_t budget, demand;
 
 static uint8_t *put(uint8_t *at, size_t number)
 {
@@ -106,6 +109,8 @@ static void lend(const struct input *input)
     *at++ = 47;
     for (size_t i = 0; i < COUNT_OF(input->numbers); i++)
         at = put(at, input->numbers[i]);
+    budget = input->numbers[4];
+    demand = input->numbers[6];
     count = input->count;
     at = put(cycle_file, count);
     for (size_t i = 0; i < count; i++) {
@@ -122,16 +127,27 @@ static void lend(const struct input *input)
 
 /* ---- calls ---- */
 
-static uint32_t answer, number, reports;
-static uint64_t tenths, cents;
+static uint32_t answer, number, reports, period, total;
+static uint64_t tenths, cents, most, least;
 
 static void verdict(void) { answer = maxeltu_verdict(spec_file, sizeof spec_file, cycle_file, cycle_length); }
 static void check_cycle(void) { answer = maxeltu_check_cycle(spec_file, sizeof spec_file, pairs, count); }
 static void check_late(void) { answer = maxeltu_check_late(spec_file, sizeof spec_file, pairs, count, LATENESS); }
 static void shortest_stretch(void) { answer = maxeltu_shortest_stretch(spec_file, sizeof spec_file, pairs, count, &number, &reports); }
+static void tolerance(void) { answer = maxeltu_tolerance(spec_file, sizeof spec_file, pairs, count, &number); }
 static void normal_form(void) { answer = maxeltu_normal_form(pairs, count, places, COUNT_OF(places), &number); }
 static void read_cycle(void) { answer = maxeltu_read_cycle(cycle_file, cycle_length, places, COUNT_OF(places), &number); }
 static void write_cycle(void) { answer = maxeltu_write_cycle(pairs, count, bytes, sizeof bytes, &number); }
+
+/* Where the check gives 15 or 16 there are margins, one of which says so. */
+static void margins(void)
+{
+    answer = maxeltu_margins(spec_file, sizeof spec_file, pairs, count, &most, &number, &least, &reports);
+    if (answer == MAXELTU_OK && most > budget)
+        answer = MAXELTU_TOO_FULL;
+    else if (answer == MAXELTU_OK && least < demand)
+        answer = MAXELTU_TOO_THIN;
+}
 
 /* A plan of so many reports, with two sizes and two gaps. None has no report: it is not proper. */
 static void write_plan(void)
@@ -152,6 +168,8 @@ static void cycle_cost(void)
 {
     answer = maxeltu_cycle_cost(spec_file, sizeof spec_file, pairs, count, UINT32_MAX, &tenths, &cents);
 }
+
+static void tolerant_plan(void) { answer = maxeltu_tolerant_plan(spec_file, sizeof spec_file, &number, &reports, &period, &total); }
 
 /* Two functions of our own, behind volatile pointers so that they are called as those of the library are. */
 static uint32_t nothing(void) { return 0; }
@@ -208,50 +226,60 @@ static void measure_itself(void)
     group(holds, "a call that fills 4,096 bytes", needed, holds ? "" : ": the measure is wrong");
 }
 
-/* A call, whether it checks cycles, and how many bytes are too many for it; one that does not check refuses only for the count. */
+/* What a call answers where the check of the cycle gives this: the same; or, where it looks at no more than the count, that alone; or, where
+ * it looks at the specification alone, what that is refused for, and no plan where a rate is too hard. */
+static uint32_t checked(uint32_t number) { return number; }
+static uint32_t counted(uint32_t number) { return number == MAXELTU_COUNT ? number : MAXELTU_OK; }
+
+static uint32_t planned(uint32_t number)
+{
+    if (number == MAXELTU_TOO_FULL || number == MAXELTU_TOO_THIN)
+        return MAXELTU_NO_BOX_PLAN;
+    return number == MAXELTU_COUNT || number == MAXELTU_GAP || number == MAXELTU_SIZE ? MAXELTU_OK : number;
+}
+
+/* A call, what it answers, and how many bytes are too many for it. */
 struct call {
     const char *name;
     void (*make)(void);
-    bool checks;
+    uint32_t (*answers)(uint32_t number);
     size_t too_many;
 };
 
-static bool answered(const struct call *call, const struct input *input)
-{
-    return answer == (call->checks || input->answer == MAXELTU_COUNT ? input->answer : MAXELTU_OK);
-}
-
 static void measure(const struct call *call)
 {
-    size_t most = 0;
+    size_t deepest = 0;
     bool all_answered = true;
     for (size_t i = 0; i < COUNT_OF(inputs); i++) {
         lend(&inputs[i]);
         size_t needed = need(call->make);
-        most = needed > most ? needed : most;
-        all_answered &= answered(call, &inputs[i]);
+        deepest = needed > deepest ? needed : deepest;
+        all_answered &= answer == call->answers(inputs[i].answer);
     }
     if (!all_answered)
-        group(false, call->name, most, ", but an input got a wrong answer");
-    else if (most >= call->too_many)
-        group(false, call->name, most, ", which are too many: one unpacked cycle is 2,048");
+        group(false, call->name, deepest, ", but an input got a wrong answer");
+    else if (deepest >= call->too_many)
+        group(false, call->name, deepest, ", which are too many: one unpacked cycle is 2,048");
     else
-        group(true, call->name, most, ", one unpacked cycle is 2,048");
+        group(true, call->name, deepest, ", one unpacked cycle is 2,048");
 }
 
 int main(void)
 {
     static const struct call calls[] = {
-        { "maxeltu_verdict", verdict, true, 2 * UNPACKED_CYCLE },
-        { "maxeltu_check_cycle", check_cycle, true, 2 * UNPACKED_CYCLE },
-        { "maxeltu_check_late", check_late, true, 2 * UNPACKED_CYCLE },
-        { "maxeltu_shortest_stretch", shortest_stretch, true, 2 * UNPACKED_CYCLE },
-        { "maxeltu_cycle_cost", cycle_cost, true, 2 * UNPACKED_CYCLE },
-        { "maxeltu_normal_form", normal_form, false, UNPACKED_CYCLE / 4 },
-        { "maxeltu_in_force", in_force, false, UNPACKED_CYCLE / 8 },
-        { "maxeltu_read_cycle", read_cycle, false, 2 * UNPACKED_CYCLE },
-        { "maxeltu_write_cycle", write_cycle, false, 2 * UNPACKED_CYCLE },
-        { "maxeltu_write_plan", write_plan, false, 2 * UNPACKED_CYCLE },
+        { "maxeltu_verdict", verdict, checked, 2 * UNPACKED_CYCLE },
+        { "maxeltu_check_cycle", check_cycle, checked, 2 * UNPACKED_CYCLE },
+        { "maxeltu_check_late", check_late, checked, 2 * UNPACKED_CYCLE },
+        { "maxeltu_shortest_stretch", shortest_stretch, checked, 2 * UNPACKED_CYCLE },
+        { "maxeltu_margins", margins, checked, 2 * UNPACKED_CYCLE },
+        { "maxeltu_tolerance", tolerance, checked, 2 * UNPACKED_CYCLE },
+        { "maxeltu_tolerant_plan", tolerant_plan, planned, UNPACKED_CYCLE / 2 },
+        { "maxeltu_cycle_cost", cycle_cost, checked, 2 * UNPACKED_CYCLE },
+        { "maxeltu_normal_form", normal_form, counted, UNPACKED_CYCLE / 4 },
+        { "maxeltu_in_force", in_force, counted, UNPACKED_CYCLE / 8 },
+        { "maxeltu_read_cycle", read_cycle, counted, 2 * UNPACKED_CYCLE },
+        { "maxeltu_write_cycle", write_cycle, counted, 2 * UNPACKED_CYCLE },
+        { "maxeltu_write_plan", write_plan, counted, 2 * UNPACKED_CYCLE },
     };
     measure_itself();
     for (size_t i = 0; i < COUNT_OF(calls); i++)

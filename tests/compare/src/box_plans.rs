@@ -29,9 +29,9 @@ pub fn all(runner: &mut Runner) {
 }
 
 /// What a box plan counts as, beside its answer: reports may be late.
-const LATE: u32 = 100;
+pub const LATE: u32 = 100;
 /// It has several pairs, or as many as a cycle can.
-const SEVERAL: u32 = 200;
+pub const SEVERAL: u32 = 200;
 const MOST: u32 = 300;
 /// A longer gap, or with 30 any, is left out only for want of pairs.
 const WANT_OF_PAIRS: u32 = 400;
@@ -39,12 +39,12 @@ const WANT_OF_PAIRS: u32 = 400;
 const AT_DMAX: u32 = 500;
 const AT_BUDGET: u32 = 600;
 /// Of two ranges its gap and all that delays make of it lie in the first, in the second, or in both.
-const FIRST_OF_TWO: u32 = 700;
-const SECOND: u32 = 800;
-const BOTH: u32 = 900;
+pub const FIRST_OF_TWO: u32 = 700;
+pub const SECOND: u32 = 800;
+pub const BOTH: u32 = 900;
 /// Delays reach just to an end of its range.
-const AT_THE_LOWER_END: u32 = 1_000;
-const AT_THE_UPPER_END: u32 = 1_100;
+pub const AT_THE_LOWER_END: u32 = 1_000;
+pub const AT_THE_UPPER_END: u32 = 1_100;
 
 /// Up to so many steps the reference tries every gap, each that delays make of it, and each number of pairs.
 const FEW_STEPS: u64 = 20_000;
@@ -70,7 +70,7 @@ fn given(made: Result<Plan, Refusal>, before: [u32; 3]) -> Outcome<3> {
     expected(made.map(|plan| [plan.k, plan.period, plan.total]), before)
 }
 
-fn plan_of(outcome: &Outcome<3>) -> Option<Plan> {
+pub fn plan_of(outcome: &Outcome<3>) -> Option<Plan> {
     let [k, period, total] = outcome.places.map(u64::from);
     (outcome.answer == 0).then_some(Plan { kind: Kind::Even, k, period, total })
 }
@@ -133,7 +133,7 @@ fn is_at_budget(spec: &Spec, lateness: u64, plan: &Plan) -> bool {
 }
 
 /// What an answer counts as beside itself.
-fn marks(spec: &Spec, lateness: u64, outcome: &Outcome<3>) -> Vec<u32> {
+pub fn marks(spec: &Spec, lateness: u64, outcome: &Outcome<3>) -> Vec<u32> {
     let Some(plan) = plan_of(outcome) else { return marks_of_none(spec, lateness, outcome.answer) };
     let gap = plan.period / plan.k;
     let (least, most) = (gap - lateness, gap + lateness);
@@ -217,7 +217,7 @@ fn everyday_input(random: &mut Random) -> (Spec, u64) {
 }
 
 /// A specification and a lateness, with room for delays at some gap or with none.
-fn some_input(random: &mut Random) -> (Spec, u64) {
+pub fn some_input(random: &mut Random) -> (Spec, u64) {
     if random.once_in(3) {
         return everyday_input(random);
     }
@@ -430,15 +430,15 @@ fn by_counts_case(random: &mut Random, _: &mut Library) -> Result<Counts, String
 
 /// About how many steps the reference's check of late reports takes: each report of a round, four starts, each report near them, and each of
 /// its delays, for both rates.
-fn steps_of_check(spec: &Spec, lateness: u64, plan: &Plan) -> u64 {
+pub fn steps_of_check(spec: &Spec, lateness: u64, reports: u64, minutes: u64) -> u64 {
     let windows = spec.supply.map_or(0, |(_, r)| r + lateness) + spec.demand.map_or(0, |(_, p)| p + lateness);
-    let near = windows * plan.k / plan.period + 2;
-    plan.k * 4 * near * (lateness + 1)
+    let near = windows * reports / minutes + 2;
+    reports * 4 * near * (lateness + 1)
 }
 
 /// The reference passes the cycle too, with that lateness and without, where that takes no more than so many steps.
 fn passed(spec: &Spec, lateness: u64, plan: &Plan, pairs: &[Pair], most: u64) -> Result<(), String> {
-    let takes_few = |minutes| steps_of_check(spec, minutes, plan) <= most;
+    let takes_few = |minutes| steps_of_check(spec, minutes, plan.k, plan.period) <= most;
     let on_time = if takes_few(0) { cycle::check(spec, pairs) } else { 0 };
     let late = if takes_few(lateness) { late::check(spec, pairs, lateness) } else { 0 };
     if [on_time, late] != [0; 2] {
@@ -456,7 +456,9 @@ fn checked_case(random: &mut Random, library: &mut Library) -> Result<Counts, St
         let (spec, lateness) = if random.once_in(2) { tight_input(random) } else { some_input(random) };
         let lateness = lateness.min(1_440);
         let got = library.box_plan(&spec::write(&spec), word(lateness), [HELD; 3]);
-        let Some(plan) = plan_of(&got).filter(|plan| steps_of_check(&spec, lateness, plan) <= most) else { continue };
+        let Some(plan) = plan_of(&got).filter(|plan| steps_of_check(&spec, lateness, plan.k, plan.period) <= most) else {
+            continue;
+        };
         let pairs = loads(&spec, lateness, got.places, library)?;
         passed(&spec, lateness, &plan, &pairs, most)?;
         let mut counts = Counts::new();

@@ -8,13 +8,17 @@ use crate::duty;
 use crate::group::Runner;
 use crate::late;
 use crate::library::{Billed, Library, Outcome};
+use crate::margins::{self, HELD_MARGINS};
 use crate::normal::{are_one_run, have_one_form};
 use crate::plans::Handed;
 use crate::ring::{Meter, BYTES};
 use crate::shortest::{given, given_for};
+use crate::tolerances;
+use crate::tolerant_plans;
 use reference::cost::{self, Cost};
 use reference::duty::Week;
 use reference::feasibility::{self, Failure};
+use reference::leeway::{Margin, Margins};
 use reference::meter::{Machine, Report};
 use reference::shortest::Stretch;
 use reference::{cycle, dated, even, file, normal, spec, verdict, Kind, Pair, Plan, Spec};
@@ -120,8 +124,18 @@ impl Checks {
         let kept = (wanted, true);
         let all = (wanted, wanted, [wanted; 5], two, bills, one, three, three, five, three, [three; 5], kept);
         self.holds(format!("library, {name}: {got:?}, not {wanted}"), got == all);
+        self.refused_leeway(name, file, wanted);
         let read = spec::read(file);
         self.holds(format!("reference, {name}: {read:?}, not {wanted}"), read == Err(wanted));
+    }
+
+    /// The same of the calls for leeway.
+    fn refused_leeway(&mut self, name: &str, file: &[u8], wanted: u32) {
+        for pairs in [&[Pair { gap: 5, size: 2 }][..], &[], &[Pair { gap: 0, size: 0 }; 513]] {
+            self.leeway(name, file, pairs, wanted);
+        }
+        let got = tolerant_plans::compare_and_again(file, &mut self.library);
+        self.holds(format!("{name}, most tolerant plan: {got:?}, not {wanted}"), got == Ok(expected(Err(wanted), [HELD; 4])));
     }
 
     /// Period, total and required supply; or the refusal.
@@ -209,6 +223,13 @@ impl Checks {
             let again = self.library.refused_box_plan(&file, lateness);
             self.holds(format!("library, {text}, again: {again}"), again == wanted.answer);
         }
+    }
+
+    /// The most tolerant plan: lateness, gap, k and total; or the refusal.
+    pub fn tolerant_plan(&mut self, name: &str, spec: &Spec, wanted: Result<[u64; 4], u32>) {
+        let wanted = expected(wanted.map(|[lateness, gap, k, total]| [lateness, k, k * gap, total]), [HELD; 4]);
+        let got = tolerant_plans::compare_and_again(&spec::write(spec), &mut self.library);
+        self.holds(format!("{name}, most tolerant plan: {got:?}, not {wanted:?}"), got == Ok(wanted));
     }
 
     /// The file of a plan that is written out into so many bytes; or the refusal. Other bytes stay as they are, and what is refused rightly
@@ -338,7 +359,7 @@ impl Checks {
     }
 
     /// The check of a cycle, on its pairs and, where they have a file, through the loader's call. With lateness 0, with the shortest stretch,
-    /// and of what its reports cost, the number is the same.
+    /// with the tolerance, and of what its reports cost, the number is the same; the margins say it too.
     pub fn cycle(&mut self, name: &str, spec: &Spec, pairs: &[(u16, u16)], wanted: u32) {
         self.late(name, spec, pairs, 0, wanted);
         let pairs = pairs_of(pairs);
@@ -347,6 +368,7 @@ impl Checks {
         let reference = spec::read(&spec_file).map_or_else(|refusal| refusal, |spec| cycle::check(&spec, &pairs));
         self.both(&format!("{name}, check"), got, reference, wanted);
         self.shortest_stretch(name, &spec_file, &pairs, given_for(&spec_file, &pairs, [HELD; 2]), wanted);
+        self.leeway(name, &spec_file, &pairs, wanted);
         for reports in [0, 1, u32::MAX] {
             self.priced_as_checked(&format!("{name}, cost of {reports} reports"), &spec_file, &pairs, reports, wanted);
         }
@@ -384,6 +406,37 @@ impl Checks {
             let again = self.library.no_stretch(spec_file, pairs);
             self.holds(format!("library, {text} again: {again}"), again == number);
         }
+    }
+
+    /// The margins and the tolerance of a cycle that gets this number.
+    fn leeway(&mut self, name: &str, spec_file: &[u8], pairs: &[Pair], number: u32) {
+        let margins = margins::compare_and_again(spec_file, pairs, &mut self.library);
+        let of_margins = if number == 15 || number == 16 { 0 } else { number };
+        self.holds(format!("{name}, margins: {margins:?}"), margins.is_ok_and(|got| got.answer == of_margins));
+        let tolerance = tolerances::compare_and_again(spec_file, pairs, &mut self.library);
+        self.holds(format!("{name}, tolerance: {tolerance:?}"), tolerance.is_ok_and(|got| got.answer == number));
+    }
+
+    /// The margins of a cycle: the most and its report, the least and its report, where there is the rate; or the refusal.
+    pub fn margins(&mut self, name: &str, spec: &Spec, pairs: &[(u16, u16)], wanted: Result<[Option<Numbers>; 2], u32>) {
+        let margin = |told: Option<Numbers>| told.map(|(records, report)| Margin { records, report });
+        let wanted = wanted.map(|[most, least]| Margins { most: margin(most), least: margin(least) });
+        let wanted = margins::given(wanted, HELD_MARGINS);
+        let got = margins::compare_and_again(&spec::write(spec), &pairs_of(pairs), &mut self.library);
+        self.holds(format!("{name}, margins: {got:?}, not {wanted:?}"), got == Ok(wanted));
+    }
+
+    /// The tolerance of a cycle; or the number that the check of it gives.
+    pub fn tolerance(&mut self, name: &str, spec: &Spec, pairs: &[(u16, u16)], wanted: Result<u64, u32>) {
+        let wanted = expected(wanted.map(|lateness| [lateness]), [HELD]);
+        let got = tolerances::compare_and_again(&spec::write(spec), &pairs_of(pairs), &mut self.library);
+        self.holds(format!("{name}, tolerance: {got:?}, not {wanted:?}"), got == Ok(wanted));
+    }
+
+    /// So many pairs, of which none can be read, have no leeway.
+    pub fn leeway_out_of_reach(&mut self, spec: &Spec, count: usize) {
+        let got = self.library.leeway_out_of_reach(&spec::write(spec), count);
+        self.holds(format!("library, {count} pairs, margins and tolerance: {got:?}, not 12"), got == [12; 2]);
     }
 
     /// So many pairs, of which none can be read, are refused.

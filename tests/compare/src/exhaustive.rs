@@ -1,6 +1,7 @@
-//! Every specification with small numbers, of one range of gaps and of two, for each of them every short cycle, also one whose reports
-//! may arrive late, the shortest stretch of every short cycle, and every list of sizes at the gap of its even plan and at longer ones;
-//! every short list of offers to every small meter; and every small even plan: nothing here is left to chance.
+//! Every specification with small numbers, of one range of gaps and of two, for each of them every short cycle, also one whose
+//! reports may arrive late, the shortest stretch and the margins of every short cycle, and every list of sizes at the gap of its
+//! even plan and at longer ones; every short list of offers to every small meter; and every small even plan: nothing here is left
+//! to chance.
 
 use crate::calls::{consistency_outcome, expected, with_condition};
 use crate::checks::HELD;
@@ -8,6 +9,7 @@ use crate::group::{same, Counts, Met, Runner, Verdict};
 use crate::late;
 use crate::least::least_case;
 use crate::library::{Library, Outcome};
+use crate::margins;
 use crate::meters::Trial;
 use crate::ring::{Meter, BYTES};
 use crate::shortest;
@@ -143,7 +145,7 @@ pub fn all(runner: &mut Runner) {
     let met = MustMeet { consistency: &[25], schedules: &[25], test: &[25] };
     every_small(runner, "every small specification of two ranges", &of_two_ranges(), met);
     let small = for_late_reports();
-    let name = "every small specification: every cycle of up to 2 pairs, up to 2 minutes late";
+    let name = "every small specification: every cycle of up to 2 pairs, up to 2 minutes late, and its tolerance";
     runner.every(name, small.cases(), &[0, 12, 13, 15, 16], |number, library| {
         let (spec, pairs) = small.case(number);
         late::every_lateness(&spec, &pairs, 2, library)
@@ -153,6 +155,12 @@ pub fn all(runner: &mut Runner) {
     runner.every(name, small.cases(), &[0, 12, 13, 14, 15, 16, 115, 116, 216, 316], |number, library| {
         let (spec, pairs) = small.case(number);
         shortest::compare_small(&spec, &pairs, library)
+    });
+    let name = "every small specification: every cycle of up to 3 pairs, its margins";
+    let answers = [0, 12, 13, 14, 100, 101, 102, 115, 116, 117, 201, 202, 301, 401, 402, 501, 502, 601, 602];
+    runner.every(name, small.cases(), &answers, |number, library| {
+        let (spec, pairs) = small.case(number);
+        margins::compare_small(&spec, &pairs, library)
     });
     let small = for_lists_of_sizes();
     let name = "every small specification: no list of sizes sends less than the even plan";

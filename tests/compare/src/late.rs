@@ -2,8 +2,8 @@
 //! small input they are. The library's answers are also held against each other: for lateness 0 against the check of a cycle, and
 //! for one lateness against those for others.
 
-use crate::calls::hex;
-use crate::checks::no_rates;
+use crate::calls::{expected, hex};
+use crate::checks::{no_rates, HELD};
 use crate::exhaustive::{one_range, two_ranges, SmallCycles};
 use crate::generate::{self, Scale, TINY};
 use crate::group::{same, Counts, Met, Runner, Verdict, RUNS};
@@ -17,7 +17,7 @@ use reference::{spec, Pair, Spec};
 pub fn all(runner: &mut Runner) {
     runner.random("reference: delays of each report, and choices of all", RUNS / 4, &[0, 13, 15, 16], two_ways_case);
     let specs = small_ranges();
-    let name = "every small range of gaps: every gap, up to 5 minutes late";
+    let name = "every small range of gaps: every gap, up to 5 minutes late, and its tolerance";
     runner.every(name, specs.len() as u64 * GAPS.count(), &[0, 12, 13], |number, library| {
         let (spec, cycle) = (number / GAPS.count(), number % GAPS.count());
         every_lateness(&specs[spec as usize], &GAPS.cycle(cycle), 5, library)
@@ -56,7 +56,7 @@ fn steps_by_choices(spec: &Spec, pairs: &[Pair], lateness: u64) -> u64 {
     choices.saturating_mul(reports).saturating_mul(starts)
 }
 
-fn shortest_gap(pairs: &[Pair]) -> u64 {
+pub fn shortest_gap(pairs: &[Pair]) -> u64 {
     pairs.iter().map(|pair| u64::from(pair.gap)).min().unwrap_or(1)
 }
 
@@ -65,7 +65,7 @@ fn passed_later(answers: &[u32]) -> bool {
     answers.windows(2).any(|two| two[0] != 0 && two[1] == 0)
 }
 
-/// Every lateness from 0 to `most`, by every choice of delays.
+/// Every lateness from 0 to `most`, by every choice of delays, and the tolerance: the ranges have room for no more.
 pub fn every_lateness(spec: &Spec, pairs: &[Pair], most: u64, library: &mut Library) -> Result<Counts, String> {
     let file = spec::write(spec);
     let got: Vec<u32> = (0..=most).map(|lateness| library.check_late(&file, pairs, word(lateness))).collect();
@@ -74,6 +74,10 @@ pub fn every_lateness(spec: &Spec, pairs: &[Pair], most: u64, library: &mut Libr
         return Err(format!("answers {got:?} for more and more lateness, input {spec:?} {pairs:?}"));
     }
     same(0, &got, &wanted, || format!("{spec:?} {pairs:?}"))?;
+    assert!(spec.gaps().all(|gap| gap <= 2 * (most + 1)), "no gap is most + 1 minutes from both ends, and above that");
+    let tolerance = (0..=most).filter(|&lateness| wanted[lateness as usize] == 0).last().ok_or(wanted[0]);
+    let tolerance = expected(tolerance.map(|lateness| [lateness]), [HELD]);
+    same(0, library.tolerance(&file, pairs, [HELD]), tolerance, || format!("tolerance, {spec:?} {pairs:?}"))?;
     let mut counts = Counts::new();
     wanted.into_iter().for_each(|answer| answer.add_to(&mut counts));
     Ok(counts)

@@ -1,4 +1,4 @@
-//! The twenty-six calls of include/maxeltu.h, each wrapped so that its answer can be compared whole: every place that it was lent
+//! The twenty-nine calls of include/maxeltu.h, each wrapped so that its answer can be compared whole: every place that it was lent
 //! is handed back with what it holds afterwards, and what it should only have read is looked at again.
 
 use crate::fence::{first_in_reach, out_of_reach, Fence};
@@ -14,6 +14,7 @@ extern "C" {
     fn maxeltu_test(spec: *const u8, spec_len: usize, condition: *mut u32, k: *mut u32, period: *mut u32, total: *mut u32, supply: *mut u32) -> u32;
     fn maxeltu_even_plan(spec: *const u8, spec_len: usize, k: *mut u32, period: *mut u32, total: *mut u32) -> u32;
     fn maxeltu_box_plan(spec: *const u8, spec_len: usize, lateness: u32, k: *mut u32, period: *mut u32, total: *mut u32) -> u32;
+    fn maxeltu_tolerant_plan(spec: *const u8, spec_len: usize, lateness: *mut u32, k: *mut u32, period: *mut u32, total: *mut u32) -> u32;
     fn maxeltu_report(kind: u32, k: u32, period: u32, total: u32, i: u32, minute: *mut u64, size: *mut u32) -> u32;
     fn maxeltu_last_report(kind: u32, k: u32, period: u32, total: u32, minute: u32, number: *mut u32) -> u32;
     fn maxeltu_nearest_report(kind: u32, k: u32, period: u32, total: u32, minute: u32, number: *mut u32) -> u32;
@@ -22,6 +23,8 @@ extern "C" {
     fn maxeltu_check_cycle(spec: *const u8, spec_len: usize, pairs: *const Pair, count: usize) -> u32;
     fn maxeltu_check_late(spec: *const u8, spec_len: usize, pairs: *const Pair, count: usize, lateness: u32) -> u32;
     fn maxeltu_shortest_stretch(spec: *const u8, spec_len: usize, pairs: *const Pair, count: usize, first: *mut u32, reports: *mut u32) -> u32;
+    fn maxeltu_margins(spec: *const u8, spec_len: usize, pairs: *const Pair, count: usize, most: *mut u64, most_from: *mut u32, least: *mut u64, least_after: *mut u32) -> u32;
+    fn maxeltu_tolerance(spec: *const u8, spec_len: usize, pairs: *const Pair, count: usize, lateness: *mut u32) -> u32;
     fn maxeltu_cycle_cost(spec: *const u8, spec_len: usize, pairs: *const Pair, count: usize, reports: u32, tenths: *mut u64, cents: *mut u64) -> u32;
     fn maxeltu_normal_form(pairs: *const Pair, count: usize, normal: *mut Pair, places: usize, normal_count: *mut u32) -> u32;
     fn maxeltu_read_cycle(file: *const u8, file_len: usize, pairs: *mut Pair, places: usize, count: *mut u32) -> u32;
@@ -45,6 +48,17 @@ pub struct Outcome<const N: usize, P = u32> {
 /// What a call for a cost answered; the places are the tenths and the cents.
 pub type Billed = Outcome<2, u64>;
 
+/// Records, and a report's number: what the places of a margin hold.
+pub type Margin = (u64, u32);
+
+/// What a call for margins answered, and what the places of the most and of the least hold afterwards.
+#[derive(Clone, Copy, Debug, PartialEq, Eq)]
+pub struct Margins {
+    pub answer: u32,
+    pub most: Margin,
+    pub least: Margin,
+}
+
 /// The memory that one thread lends to the library.
 pub struct Library {
     spec: Fence<u8>,
@@ -57,6 +71,8 @@ pub struct Library {
     round: Two<u32>,
     records: Fence<u64>,
     bill: Two<u64>,
+    most: Lent,
+    least: Lent,
     meter: Fence<Meter>,
     left: Fence<u32>,
     table: Fence<u16>,
@@ -86,6 +102,35 @@ impl<T: Copy + PartialEq + Default> Two<T> {
         let Two { first, second } = self;
         let held = [T::default()];
         first.sealed(&held, |first| second.sealed(&held, |second| call(first, second)))
+    }
+}
+
+/// The two places of a margin.
+struct Lent {
+    records: Fence<u64>,
+    report: Fence<u32>,
+}
+
+impl Lent {
+    fn new() -> Lent {
+        Lent { records: Fence::new(1), report: Fence::new(1) }
+    }
+
+    fn lend(&mut self, (records, report): Margin) -> (*mut u64, *mut u32) {
+        (self.records.lend(&[records]), self.report.lend(&[report]))
+    }
+
+    fn held(&self) -> Margin {
+        (self.records.held(1)[0], self.report.held(1)[0])
+    }
+
+    /// Where the margin is told it can be written, and where it is not it can't.
+    fn sealed_unless(&mut self, is_told: bool, call: impl FnOnce(*mut u64, *mut u32) -> u32) -> u32 {
+        let Lent { records, report } = self;
+        if is_told {
+            return call(records.lend(&[0]), report.lend(&[0]));
+        }
+        records.sealed(&[0], |records| report.sealed(&[0], |report| call(records, report)))
     }
 }
 
@@ -137,6 +182,8 @@ impl Library {
             round: Two::new(),
             records: Fence::new(1),
             bill: Two::new(),
+            most: Lent::new(),
+            least: Lent::new(),
             meter: Fence::new(2),
             left: Fence::new(1),
             table: Fence::new(1),
@@ -209,6 +256,25 @@ impl Library {
         lend_spec(file, spec, |at, len| {
             number
                 .sealed(&[0], |k| round.sealed(|period, total| unsafe { maxeltu_box_plan(at, len, lateness, k, period, total) }))
+        })
+    }
+
+    /// The places are the lateness, k, the period and the total.
+    pub fn tolerant_plan(&mut self, spec: &[u8], before: [u32; 4]) -> Outcome<4> {
+        let Library { spec: file, stretch, round, .. } = self;
+        let ((lateness, k), (period, total)) = (stretch.lend([before[0], before[1]]), round.lend([before[2], before[3]]));
+        let answer = lend_spec(file, spec, |at, len| unsafe { maxeltu_tolerant_plan(at, len, lateness, k, period, total) });
+        let ([lateness, k], [period, total]) = (stretch.held(), round.held());
+        Outcome { answer, places: [lateness, k, period, total] }
+    }
+
+    /// A most tolerant plan that is refused: all four numbers have places where nothing can be written.
+    pub fn refused_tolerant_plan(&mut self, spec: &[u8]) -> u32 {
+        let Library { spec: file, stretch, round, .. } = self;
+        lend_spec(file, spec, |at, len| {
+            stretch.sealed(|lateness, k| {
+                round.sealed(|period, total| unsafe { maxeltu_tolerant_plan(at, len, lateness, k, period, total) })
+            })
         })
     }
 
@@ -293,6 +359,58 @@ impl Library {
         let at = self.spec.lend(spec);
         out_of_reach(count, |list| {
             self.stretch.sealed(|first, reports| unsafe { maxeltu_shortest_stretch(at, spec.len(), list, count, first, reports) })
+        })
+    }
+
+    pub fn margins(&mut self, spec: &[u8], pairs: &[Pair], before: [Margin; 2]) -> Margins {
+        let ((most, from), (least, after)) = (self.most.lend(before[0]), self.least.lend(before[1]));
+        let answer = self.with_cycle(spec, pairs, |at, len, list| unsafe {
+            maxeltu_margins(at, len, list, pairs.len(), most, from, least, after)
+        });
+        Margins { answer, most: self.most.held(), least: self.least.held() }
+    }
+
+    /// The same, where the places of the most, or of the least, lie where nothing can be written unless they are told.
+    pub fn margins_told(&mut self, spec: &[u8], pairs: &[Pair], told: [bool; 2]) -> u32 {
+        let (at, count) = (self.spec.lend(spec), pairs.len());
+        let Library { pairs: list, most, least, .. } = self;
+        lend_cycle(list, pairs, |list| {
+            most.sealed_unless(told[0], |most, from| {
+                least.sealed_unless(told[1], |least, after| unsafe {
+                    maxeltu_margins(at, spec.len(), list, count, most, from, least, after)
+                })
+            })
+        })
+    }
+
+    /// The place is the lateness.
+    pub fn tolerance(&mut self, spec: &[u8], pairs: &[Pair], before: [u32; 1]) -> Outcome<1> {
+        let lateness = self.number.lend(&before);
+        let answer =
+            self.with_cycle(spec, pairs, |at, len, list| unsafe { maxeltu_tolerance(at, len, list, pairs.len(), lateness) });
+        Outcome { answer, places: [self.number.held(1)[0]] }
+    }
+
+    /// A cycle that is not passed: the lateness has a place where nothing can be written.
+    pub fn refused_tolerance(&mut self, spec: &[u8], pairs: &[Pair]) -> u32 {
+        let (at, count) = (self.spec.lend(spec), pairs.len());
+        let Library { pairs: list, number, .. } = self;
+        lend_cycle(list, pairs, |list| {
+            number.sealed(&[0], |lateness| unsafe { maxeltu_tolerance(at, spec.len(), list, count, lateness) })
+        })
+    }
+
+    /// The answers for so many pairs, of which none can be read: margins and tolerance, whose places lie where nothing can be written.
+    pub fn leeway_out_of_reach(&mut self, spec: &[u8], count: usize) -> [u32; 2] {
+        let at = self.spec.lend(spec);
+        let Library { most, least, number, .. } = self;
+        out_of_reach(count, |list| {
+            let margins = most.sealed_unless(false, |most, from| {
+                least.sealed_unless(false, |least, after| unsafe {
+                    maxeltu_margins(at, spec.len(), list, count, most, from, least, after)
+                })
+            });
+            [margins, number.sealed(&[0], |lateness| unsafe { maxeltu_tolerance(at, spec.len(), list, count, lateness) })]
         })
     }
 

@@ -25,8 +25,10 @@ mod group;
 mod late;
 mod late_edges;
 mod least;
+mod leeway_edges;
 mod library;
 mod limits;
+mod margins;
 mod meters;
 mod moments;
 mod normal;
@@ -43,6 +45,8 @@ mod shortest;
 mod shortest_edges;
 mod small_box_plans;
 mod tables;
+mod tolerances;
+mod tolerant_plans;
 mod written_plans;
 
 use group::{Runner, RUNS};
@@ -72,6 +76,7 @@ fn main() {
             dated_edges::all(&mut runner);
             shortest_edges::all(&mut runner);
             box_plan_edges::all(&mut runner);
+            leeway_edges::all(&mut runner);
             calls::reference_itself(&mut runner);
             exhaustive::all(&mut runner);
             calls::all(&mut runner);
@@ -87,6 +92,9 @@ fn main() {
             small_box_plans::all(&mut runner);
             box_plans::all(&mut runner);
             written_plans::all(&mut runner);
+            margins::all(&mut runner);
+            tolerances::all(&mut runner);
+            tolerant_plans::all(&mut runner);
             meters::all(&mut runner);
         }
         ["evenplan", program] => program::all(&mut runner, program.as_ref()),

@@ -1,10 +1,13 @@
 //! Cycles whose round is longer than R and P, divides them, or misses them by a minute: there a check that counts the whole
-//! rounds of a stretch could count one too many or too few. What the fullest and the thinnest stretch hold is summed here, report
-//! by report over the endless repetition, and B and L lie there, one below and one above. Nothing here is left to chance.
+//! rounds of a stretch could count one too many or too few. What the fullest and the thinnest stretch hold is summed report by report
+//! over the endless repetition, and B and L lie there, one below and one above; the margins must say the same. Nothing here is left to
+//! chance.
 
 use crate::checks::{no_rates, pairs_of};
 use crate::group::{same, Runner, Verdict};
 use crate::library::Library;
+use crate::margins::{self, report_minutes, HELD_MARGINS};
+use reference::leeway::held;
 use reference::{cycle, file, spec, verdict, Pair, Spec};
 use std::collections::BTreeSet;
 
@@ -27,7 +30,7 @@ fn group(runner: &mut Runner, name: &str, inputs: Vec<Input>) {
     runner.every(name, cases.len() as u64, &[0, 15, 16], |number, library| compare(&cases[number as usize], library));
 }
 
-/// A cycle, a specification, and the answer that follows from the sums made here.
+/// A cycle, a specification, and the answer that follows from the sums.
 pub struct Case<'a> {
     pub pairs: &'a [Pair],
     pub spec: Spec,
@@ -40,25 +43,11 @@ fn compare(case: &Case, library: &mut Library) -> Verdict {
     let input = || format!("{:?} {:?}", case.spec, case.pairs);
     let reference = (cycle::check(&case.spec, case.pairs), verdict(&spec_file, &cycle_file));
     if reference != (case.answer, case.answer) {
-        return Err(format!("reference {reference:?}, sums of this test {}, input {}", case.answer, input()));
+        return Err(format!("reference {reference:?}, by the sums {}, input {}", case.answer, input()));
     }
     let got = (library.check_cycle(&spec_file, case.pairs), library.verdict(&spec_file, &cycle_file));
+    margins::compare(&spec_file, case.pairs, HELD_MARGINS, library)?;
     same(case.answer, got, reference, input)
-}
-
-/// The reports of the endless repetition, minute and size.
-fn reports(pairs: &[Pair]) -> impl Iterator<Item = (u64, u64)> + '_ {
-    let mut next = 0;
-    pairs.iter().cycle().map(move |pair| {
-        let minute = next;
-        next += u64::from(pair.gap);
-        (minute, pair.size.into())
-    })
-}
-
-/// What the minutes a to a + n − 1 hold.
-fn held(pairs: &[Pair], a: u64, n: u64) -> u64 {
-    reports(pairs).skip_while(|report| report.0 < a).take_while(|report| report.0 < a + n).map(|report| report.1).sum()
 }
 
 fn minutes_of(pairs: &[Pair]) -> u64 {
@@ -77,7 +66,7 @@ const EVERY_START: u64 = 2_000;
 fn starts(pairs: &[Pair]) -> Vec<u64> {
     match minutes_of(pairs) {
         round if round <= EVERY_START => (0..round).collect(),
-        _ => reports(pairs).take(pairs.len()).flat_map(|(minute, _)| [minute, minute + 1]).collect(),
+        _ => report_minutes(pairs).into_iter().flat_map(|minute| [minute, minute + 1]).collect(),
     }
 }
 

@@ -1,8 +1,8 @@
 //! The samples of document 01, starred or not, through the library and through the reference, and the files in samples/. The sizes of
 //! even plans are those of document 02, Req 02, the meter is that of Req 03, the van of two shifts that of Req 06, the prices are those
 //! of Req 08, the reports that arrive late those of Req 09, the first report that may be thinner that of Req 10, the week table is that of
-//! Req 11, the normal forms are those of Req 12, the dated files those of Req 13, and the shortest stretches those of Req 14; the box plans
-//! are worked out from their own request.
+//! Req 11, the normal forms are those of Req 12, the dated files those of Req 13, and the shortest stretches those of Req 14; the box plans,
+//! and the leeway of cycles, are worked out from their own requests.
 
 use crate::checks::{self, both_rates, demand_only, pairs_of, supply_only, with_second, Checks, Offer};
 use crate::dated::dated;
@@ -59,7 +59,8 @@ pub fn all(runner: &mut Runner) {
     checks::group(runner, "samples of plans and cycles, what they cost", costs);
     checks::group(runner, "samples of cycles with late reports", late);
     checks::group(runner, "samples of cycles, the shortest stretch to send back", shortest_stretches);
-    checks::group(runner, "samples of specifications, their box plans", box_plans);
+    checks::group(runner, "samples of cycles, their margins and tolerances", leeway);
+    checks::group(runner, "samples of specifications, their box plans and the most tolerant", box_plans);
     checks::group(runner, "samples of meters", meters);
     checks::group(runner, "sample of a week table", duty_hours);
     checks::group(runner, "samples of cycles, their normal forms", normal_forms);
@@ -183,7 +184,55 @@ fn late(checks: &mut Checks) {
     }
 }
 
-/// The specifications of samples/, for each lateness from 0 on: gap, pairs and records, or none. What follows the last is none.
+/// The cycles of samples/ against their specifications: the most and the least, each with its report, and the tolerance; or what the check gives.
+fn leeway(checks: &mut Checks) {
+    type Margins = [(u64, u64); 2];
+    let rows: [(&str, &str, Margins, Result<u64, u32>); 19] = [
+        ("a", "a-good", [(29, 0), (17, 0)], Ok(0)),
+        ("a28", "a-good", [(29, 0), (17, 0)], Err(15)),
+        // Six reports in 26 minutes, and four in 20.
+        ("b15", "b15-good", [(15, 0), (10, 0)], Ok(0)),
+        ("b15", "b15-full", [(16, 0), (10, 0)], Err(15)),
+        ("b15", "b15-thin", [(14, 2), (9, 0)], Err(16)),
+        // Reports at 0, 15, 30, 35 and 125 of 5, 5, 4, 8 and 8, in a round of 185 minutes; and from that at 35 on, twice.
+        ("shift", "shift-good", [(22, 0), (8, 2)], Ok(0)),
+        ("touching", "shift-good", [(22, 0), (8, 2)], Ok(0)),
+        ("shift", "shift-turned", [(22, 2), (8, 0)], Ok(0)),
+        ("touching", "shift-turned", [(22, 2), (8, 0)], Ok(0)),
+        ("touching", "shift-between", [(20, 0), (8, 1)], Ok(0)),
+        ("late", "late-good", [(4, 0), (4, 0)], Ok(2)),
+        ("late", "late-full", [(4, 0), (4, 0)], Ok(0)),
+        ("late", "late-thin", [(2, 0), (2, 0)], Ok(0)),
+        ("shift", "late-shift", [(16, 0), (24, 0)], Ok(0)),
+        ("touching", "late-shift", [(16, 0), (24, 0)], Ok(10)),
+        ("apart", "apart-thin", [(9, 0), (0, 0)], Err(16)),
+        ("day", "day-box", [(1_440, 0), (1_440, 0)], Ok(0)),
+        // The same cycles beside others: margins are told where a rate is broken too.
+        ("b14", "b15-good", [(15, 0), (10, 0)], Err(15)),
+        ("b", "b15-full", [(16, 0), (10, 0)], Ok(0)),
+    ];
+    for (spec, cycle, [most, least], tolerance) in rows {
+        let name = format!("{cycle}.cycle against {spec}.spec");
+        let (spec, pairs) = (spec_in(&format!("{spec}.spec")), pairs_in(&format!("{cycle}.cycle")));
+        checks.margins(&name, &spec, &pairs, Ok([Some(most), Some(least)]));
+        checks.tolerance(&name, &spec, &pairs, tolerance);
+    }
+    for (spec, cycle, number) in [("b15", "b15-gap", 13), ("b15", "b15-size", 14), ("shift", "shift-between", 13)] {
+        let (spec, pairs) = (spec_in(&format!("{spec}.spec")), pairs_in(&format!("{cycle}.cycle")));
+        checks.margins(cycle, &spec, &pairs, Err(number));
+        checks.tolerance(cycle, &spec, &pairs, Err(number));
+    }
+    // One rate alone.
+    let (most, full) = (spec_in("most.spec"), pairs_in("most-full.cycle"));
+    checks.margins("most-full.cycle", &most, &full, Ok([Some((20_160, 0)), None]));
+    checks.tolerance("most-full.cycle", &most, &full, Err(15));
+    let (least, thin) = (spec_in("least.spec"), [(5, 1), (5, 3)]);
+    checks.margins("1 and 3 against least.spec", &least, &thin, Ok([None, Some((1, 1))]));
+    checks.tolerance("1 and 3 against least.spec", &least, &thin, Err(16));
+}
+
+/// The specifications of samples/, for each lateness from 0 on: gap, pairs and records, or none. What follows the last is none, and the last
+/// is the most tolerant.
 fn box_plans(checks: &mut Checks) {
     let touching: Vec<[u64; 3]> = (0..=40).map(|lateness| [90 - lateness, 1, 8]).collect();
     let rows: [(&str, &[[u64; 3]]); 18] = [
@@ -208,6 +257,8 @@ fn box_plans(checks: &mut Checks) {
     ];
     for (name, wanted) in rows {
         let spec = spec_in(&format!("{name}.spec"));
+        let last = wanted.last().map(|&[gap, pairs, records]| [wanted.len() as u64 - 1, gap, pairs, records]);
+        checks.tolerant_plan(name, &spec, last.ok_or(30));
         for lateness in (0..=60).chain([719, 1_439, 1_440]) {
             checks.box_plan(name, &spec, lateness, wanted.get(lateness as usize).copied().ok_or(30));
         }

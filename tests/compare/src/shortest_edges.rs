@@ -368,7 +368,7 @@ fn both(checks: &mut Checks) {
 }
 
 /// Counts that 16 or 32 bits take for that of a cycle.
-const TOO_MANY: [usize; 8] = [513, 65_536, 65_537, 65_536 + 512, 1 << 32, (1 << 32) + 1, (1 << 32) + 512, (1 << 34) + 1];
+pub const TOO_MANY: [usize; 8] = [513, 65_536, 65_537, 65_536 + 512, 1 << 32, (1 << 32) + 1, (1 << 32) + 512, (1 << 34) + 1];
 
 fn others(checks: &mut Checks) {
     let rated = both_rates((3, 7), (5, 30), (6, 20), (100, 20));

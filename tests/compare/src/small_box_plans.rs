@@ -19,6 +19,10 @@ pub fn all(runner: &mut Runner) {
         let (spec, lateness) = (&specs[(number / LATENESSES) as usize], number % LATENESSES);
         every_rate(spec, lateness, &tried, library)
     });
+    let name = "every small specification: its most tolerant plan, every cycle tried";
+    runner.every(name, specs.len() as u64, &[30, 100, 101, 102, 103], |number, library| {
+        every_rate_most_tolerant(&specs[number as usize], &tried, library)
+    });
 }
 
 type Range = (u64, u64);
@@ -98,6 +102,12 @@ impl Tried {
         let best = |gap: u64| self.best_at(spec, gap, lateness).map(|[pairs, records]| [pairs, pairs * gap, records]);
         spec.gaps().filter(kept).find_map(best).ok_or(30)
     }
+
+    /// The greatest lateness that has a box plan, and k, period and total; or 30. No gap is 4 minutes from both ends of 1 to 7.
+    fn tolerant_plan(&self, spec: &Spec) -> Result<[u64; 4], u32> {
+        let plan = |lateness: u64| self.box_plan(spec, lateness).map(|[k, period, total]| [lateness, k, period, total]);
+        (0..LATENESSES).rev().find_map(|lateness| plan(lateness).ok()).ok_or(30)
+    }
 }
 
 fn put(tried: &mut [BTreeSet<Numbers>], pairs: &[Pair], gap: u64, lateness: u64) {
@@ -112,15 +122,17 @@ fn put(tried: &mut [BTreeSet<Numbers>], pairs: &[Pair], gap: u64, lateness: u64)
     }
 }
 
-/// Every small rate, and none. A plan counts as 100 more than its pairs where reports are on time, and as 200 more than its lateness where they
-/// are not.
+/// Every two rates, each small or none.
+fn every_two_rates() -> impl Iterator<Item = (Option<Range>, Option<Range>)> {
+    let small = || (1..=RECORDS).flat_map(|records| (1..=WINDOWS).map(move |minutes| (records, minutes)));
+    let rates = move || [None].into_iter().chain(small().map(Some));
+    rates().flat_map(move |supply| rates().map(move |demand| (supply, demand)))
+}
+
+/// A plan counts as 100 more than its pairs where reports are on time, and as 200 more than its lateness where they are not.
 fn every_rate(bare: &Spec, lateness: u64, tried: &Tried, library: &mut Library) -> Result<Counts, String> {
-    let rates: Vec<Option<Range>> = [None]
-        .into_iter()
-        .chain((1..=RECORDS).flat_map(|records| (1..=WINDOWS).map(move |minutes| Some((records, minutes)))))
-        .collect();
     let mut counts = Counts::new();
-    for (&supply, &demand) in rates.iter().flat_map(|supply| rates.iter().map(move |demand| (supply, demand))) {
+    for (supply, demand) in every_two_rates() {
         let spec = Spec { supply, demand, ..bare.clone() };
         let made = tried.box_plan(&spec, lateness);
         let got = library.box_plan(&spec::write(&spec), word(lateness), [HELD; 3]);
@@ -130,6 +142,19 @@ fn every_rate(bare: &Spec, lateness: u64, tried: &Tried, library: &mut Library) 
             Err(refusal) => refusal,
         };
         same(met, got, expected(made, [HELD; 3]), || format!("{spec:?}, {lateness} minutes late"))?.add_to(&mut counts);
+    }
+    Ok(counts)
+}
+
+/// A plan counts as 100 more than its lateness.
+fn every_rate_most_tolerant(bare: &Spec, tried: &Tried, library: &mut Library) -> Result<Counts, String> {
+    let mut counts = Counts::new();
+    for (supply, demand) in every_two_rates() {
+        let spec = Spec { supply, demand, ..bare.clone() };
+        let made = tried.tolerant_plan(&spec);
+        let got = library.tolerant_plan(&spec::write(&spec), [HELD; 4]);
+        let met = made.map_or_else(|refusal| refusal, |[lateness, ..]| 100 + word(lateness));
+        same(met, got, expected(made, [HELD; 4]), || format!("{spec:?}"))?.add_to(&mut counts);
     }
     Ok(counts)
 }

@@ -14,6 +14,7 @@ pub mod even;
 pub mod feasibility;
 pub mod file;
 pub mod late;
+pub mod leeway;
 pub mod meter;
 pub mod moments;
 pub mod normal;
