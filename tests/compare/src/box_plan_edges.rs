@@ -3,7 +3,7 @@
 
 use crate::checks::{self, both_rates, demand_only, no_rates, supply_only, with_second, Checks};
 use crate::group::Runner;
-use reference::{spec, Spec};
+use reference::Spec;
 
 pub fn all(runner: &mut Runner) {
     checks::group(runner, "box plans: gaps that delays keep in one range", gaps_of_one_range);
@@ -308,13 +308,7 @@ fn order(checks: &mut Checks) {
         }
     }
     checks.box_plan("the greatest lateness", &plain, 1_440, Ok([18_720, 1, 3]));
-    // A file that is refused keeps its number, however late its reports are.
-    let file = spec::write(&plain);
-    checks.refused("no byte", &[], 1);
-    checks.refused("a byte less", &file[..file.len() - 1], 2);
-    checks.refused("dmax 1,001", &spec::write(&Spec { size: (3, 1_001), ..plain.clone() }), 3);
-    checks.refused("gaps 31 to 30", &spec::write(&Spec { gap: (31, 30), ..plain.clone() }), 4);
-    checks.refused("a second range from smax", &spec::write(&with_second(&no_rates((3, 7), (5, 30)), (30, 40))), 24);
+    checks.refused_files();
     // The duration is not asked for, nor consistency.
     let lasting = Spec { duration: Some((1, 1)), ..both_rates((1, 9), (5, 30), (8, 60), (3, 60)) };
     checks.box_plan("a duration shorter than P", &lasting, 0, Ok([30, 1, 2]));

@@ -129,6 +129,17 @@ impl Checks {
         self.holds(format!("reference, {name}: {read:?}, not {wanted}"), read == Err(wanted));
     }
 
+    /// A file that is refused keeps its number, whatever else a call is handed.
+    pub fn refused_files(&mut self) {
+        let rated = both_rates((3, 7), (5, 30), (6, 20), (100, 20));
+        let file = spec::write(&rated);
+        self.refused("no byte", &[], 1);
+        self.refused("a byte less", &file[..file.len() - 1], 2);
+        self.refused("dmax 1,001", &spec::write(&Spec { size: (3, 1_001), ..rated.clone() }), 3);
+        self.refused("gaps 31 to 30", &spec::write(&Spec { gap: (31, 30), ..rated.clone() }), 4);
+        self.refused("a second range from smax", &spec::write(&with_second(&rated, (30, 40))), 24);
+    }
+
     /// The same of the calls for leeway.
     fn refused_leeway(&mut self, name: &str, file: &[u8], wanted: u32) {
         for pairs in [&[Pair { gap: 5, size: 2 }][..], &[], &[Pair { gap: 0, size: 0 }; 513]] {

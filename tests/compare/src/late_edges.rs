@@ -3,7 +3,7 @@
 
 use crate::checks::{self, both_rates, demand_only, no_rates, supply_only, with_second, Checks, BEFORE_RATES};
 use crate::group::Runner;
-use reference::{spec, Spec};
+use reference::Spec;
 
 pub fn all(runner: &mut Runner) {
     checks::group(runner, "late reports: gaps that delays just keep in one range", gaps_of_one_range);
@@ -122,13 +122,7 @@ fn order(checks: &mut Checks) {
     checks.late("14 before 15 by delays", &rated, &[(10, 2), (10, 3)], 1, 14);
     checks.late("15 by delays before 16", &rated, &[(10, 3)], 0, 16);
     checks.late("15 by delays before 16", &rated, &[(10, 3)], 1, 15);
-    // A file that is refused keeps its number, however late its reports are.
-    let file = spec::write(&rated);
-    checks.refused("no byte", &[], 1);
-    checks.refused("a byte less", &file[..file.len() - 1], 2);
-    checks.refused("dmax 1,001", &spec::write(&Spec { size: (3, 1_001), ..rated.clone() }), 3);
-    checks.refused("gaps 31 to 30", &spec::write(&Spec { gap: (31, 30), ..rated.clone() }), 4);
-    checks.refused("a second range from smax", &spec::write(&with_second(&rated, (30, 40))), 24);
+    checks.refused_files();
 }
 
 /// Rounds of one report, of which a stretch holds many.

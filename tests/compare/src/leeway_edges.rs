@@ -4,7 +4,7 @@
 use crate::checks::{self, both_rates, demand_only, no_rates, supply_only, with_second, Checks, BEFORE_RATES};
 use crate::group::Runner;
 use crate::shortest_edges::TOO_MANY;
-use reference::{spec, Spec};
+use reference::Spec;
 
 pub fn all(runner: &mut Runner) {
     checks::group(runner, "margins: one pair", margins_of_one_pair);
@@ -270,12 +270,7 @@ fn margins_refused(checks: &mut Checks) {
     for count in TOO_MANY {
         checks.leeway_out_of_reach(&rated, count);
     }
-    let file = spec::write(&rated);
-    checks.refused("no byte", &[], 1);
-    checks.refused("a byte less", &file[..file.len() - 1], 2);
-    checks.refused("dmax 1,001", &spec::write(&Spec { size: (3, 1_001), ..rated.clone() }), 3);
-    checks.refused("gaps 31 to 30", &spec::write(&Spec { gap: (31, 30), ..rated.clone() }), 4);
-    checks.refused("a second range from smax", &spec::write(&with_second(&rated, (30, 40))), 24);
+    checks.refused_files();
 }
 
 /// The tolerance of one pair of each gap, alone and beside one that has as much or more.

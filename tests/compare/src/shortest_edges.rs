@@ -4,7 +4,7 @@
 
 use crate::checks::{self, both_rates, demand_only, no_rates, supply_only, with_second, Checks, BEFORE_RATES};
 use crate::group::Runner;
-use reference::{spec, Spec};
+use reference::Spec;
 
 pub fn all(runner: &mut Runner) {
     checks::group(runner, "shortest stretches: less than R minutes apart, more than B", just_full);
@@ -390,10 +390,5 @@ fn others(checks: &mut Checks) {
         checks.no_shortest("gaps 31 to 30", &Spec { gap: (31, 30), ..rated.clone() }, pairs, 4);
         checks.no_shortest("a second range from smax", &with_second(&rated, (30, 40)), pairs, 24);
     }
-    let file = spec::write(&rated);
-    checks.refused("no byte", &[], 1);
-    checks.refused("a byte less", &file[..file.len() - 1], 2);
-    checks.refused("dmax 1,001", &spec::write(&Spec { size: (3, 1_001), ..rated.clone() }), 3);
-    checks.refused("gaps 31 to 30", &spec::write(&Spec { gap: (31, 30), ..rated.clone() }), 4);
-    checks.refused("a second range from smax", &spec::write(&with_second(&rated, (30, 40))), 24);
+    checks.refused_files();
 }
