@@ -65,6 +65,7 @@ pub(crate) struct Look {
 }
 
 impl<'a> Cycle<'a> {
+    // The walk over the stretches of a side, whose minutes are divided into parts once, and not at each report.
     pub(crate) fn walk(&self, side: Side, minutes: u16) -> Walk
         requires { 1 ≤ walked side minutes }
         ensures { (result.side ≡ side) × (result.minutes ≡ minutes) × IsWalk (pairs_in self.now.by self.now.pairs.now) result }

@@ -1,3 +1,4 @@
+-- A rate that is absent has no margin; one that is there has that of its minutes.
 use Rattle.cycle.specs.Margins.{margin_of}
 use Rattle.cycle.proofs.windows.Cycle.margin_of.Goals as goal
 
