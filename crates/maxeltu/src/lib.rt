@@ -1,10 +1,10 @@
 // What others call: the loader's call and the C interface of include/maxeltu.h, thin over the crates below. Every call answers 0 or the
 // number of the refusal; a lent place is written only where the answer is 0, the two places of a margin only for a rate that is there, the
 // condition of an inconsistent specification only where the answer is 7, the two places of a shortest stretch only where it is 15 or 16, and
-// the budget left after every offer to a meter that has one to tell. A call that takes a specification goes on from the reader's answer by
-// `let .. else`, and from a plan that is named likewise: the form that document 01 asks for. A plan comes as four numbers, as C has them. A
-// call that checks, bills, reads or writes a cycle, or tells its margins or its tolerance, has 1,024 words of its own, what 512 pairs take,
-// since a box has no heap; a normal form is found where the pairs lie.
+// the budget left after every offer to a meter that has one to tell. A call that plans, tests, checks, bills or tells a cycle's leeway goes on
+// from the reader's answer by `let .. else`, and from a plan that is named likewise: the form that document 01 asks for. A plan comes as four
+// numbers, as C has them. A call that checks, bills, reads or writes a cycle, or tells its margins or its tolerance, has 1,024 words of its
+// own, what 512 pairs take, since a box has no heap; a normal form is found where the pairs lie.
 #![tactic(auto)]
 
 ghost use Rattle.std.specs.Prelude.{◌≡◌, length};
