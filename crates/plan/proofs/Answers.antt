@@ -37,6 +37,14 @@ module _ {A : Type 0} (p : Plan) where
       by true ok e = (ok, cc)
       by false ok e = cc
 
+  pub proper_refused : (x : A) {n : ℕ} → if_proper p x ≡ Err n → proper p ≡ false
+  unfolding if_proper
+  proper_refused x {n} = by (proper p) refl
+    where
+      by : (b : Bool) → proper p ≡ b → cond {A = Result A ℕ} b (Ok x) (Err 11) ≡ Err n → proper p ≡ false
+      by true ok e = cc
+      by false ok e = ok
+
 module _ (p : Plan) {x : ℕ} where
   -- no size is above 1,000 records
   module _ (i : ℕ) (ok : proper p ≡ true) where

@@ -140,16 +140,21 @@ impl ProperPlan {
     }
 
     // The minute of report i: whole periods, and the gaps before it in its own, of which the last are longer. The even kind has no longer
-    // gap.
+    // gap, so that one division is enough.
     fn minute(self, i: u64) -> u64
         requires { i ≤ 2 ^ 32 }
         ensures { result ≡ minute (run self.plan) i }
     {
         let k = self.count();
         let period = self.period();
-        let j = i % k;
-        let longer = j.saturating_sub(k - period % k);
-        i / k * period + (j * (period / k) + longer)
+        match self.plan.kind {
+            Kind::WellFormed => {
+                let j = i % k;
+                let longer = j.saturating_sub(k - period % k);
+                i / k * period + (j * (period / k) + longer)
+            }
+            Kind::Even => i * (period / k),
+        }
     }
 
     // The size of report i of the well-formed kind: the first of a period are larger.
