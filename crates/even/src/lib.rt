@@ -149,9 +149,11 @@ pub fn even_plan(spec: Spec) -> Result<Plan, Refusal>
     ensures { numbered result ≡ even_plan spec }
 {
     spec.check()?;
-    even_gap(Accepted { spec })
-        .map(|gap| plan_at(spec, gap))
-        .ok_or(Refusal::NoEvenPlan)
+    // A match and no closure: a specification that is lent to one is copied field by field.
+    match even_gap(Accepted { spec }) {
+        Some(gap) => Ok(plan_at(spec, gap)),
+        None => Err(Refusal::NoEvenPlan),
+    }
 }
 
 // The even plan of a specification file.
