@@ -21,6 +21,10 @@ pub count_right : (n : ℕ) → 1 ≤ n → n ≤ 512 → count_in n ≡ true
 count_right n some few = (between_iff 1 512 n).1 (some, few)
 
 -- from the tests to the number
+pub gets_12 : (count gaps sizes supply demand : Bool) → count ≡ false → 12 ≡ first_refusal count gaps sizes supply demand
+unfolding first_refusal
+gets_12 count gaps sizes supply demand h = rw h
+
 module _ (count gaps sizes supply demand : Bool) (counted : count ≡ true) where
   pub gets_13 : gaps ≡ false → 13 ≡ first_refusal count gaps sizes supply demand
   unfolding first_refusal

@@ -1,16 +1,19 @@
 -- Laws of a list laid over the front of another: an element stored behind the new list makes it one longer. Assumes nothing.
 use mathlib.Core.Path.{◌≡◌, sym, ap, ◌∙◌}
-use Prim.Native.Nat.{ℕ, suc, ◌+◌, ◌*◌, ◌<◌}
+use Prim.Native.Nat.{ℕ, suc, ◌+◌, ◌*◌, ◌≤◌, ◌<◌}
 use native.Mathlib.Numerals.{add-one}
 use native.Mathlib.Omega.{arith}
 use mathlib.Core.List.{List, [], ◌∷◌, ◌++◌, append_assoc}
-use lib.ListN.{length, set, drop, length-append}
+use lib.ListN.{length, set, drop, length-append, length-drop}
 use lib.Seq.{drop-cons, set_at}
 use Rattle.pairs.specs.declared.Pair.{Pair}
 use Rattle.pairs.specs.Pairs.{flatten, laid_over}
 use Rattle.pairs.proofs.FlatLists.{length_flatten, flatten_append}
 
 module _ {A : Type 0} where
+  pub length_laid_over : (new old : List A) → length new ≤ length old → length (laid_over new old) ≡ length old
+  length_laid_over new old h = simp (length-append, length-drop) (omega arith)
+
   pub laid_over_next : (new old : List A) (a : A) (n : ℕ) → length new ≡ n → n < length old → set (laid_over new old) n a ≡ laid_over (new ++ (a ∷ [])) old
   laid_over_next new old a n e h =
       ap (λ (k : ℕ). set (new ++ drop k old) n a) e

@@ -9,7 +9,7 @@ use Rattle.pairs.specs.declared.Pair.{Pair}
 use Rattle.pairs.specs.Pairs.{no_pair, pairs_of, laid_over, that_fit}
 use Rattle.pairs.proofs.FlatLists.{length_pairs_of, take_next}
 use Rattle.pairs.proofs.Counts.{all_fit, none_fit}
-use Rattle.pairs.proofs.LaidOver.{laid_over_next}
+use Rattle.pairs.proofs.LaidOver.{length_laid_over, laid_over_next}
 
 -- the lent list when the first i pairs of the words are packed
 abbrev pub packed : List ℕ → List Pair → ℕ → List Pair
@@ -20,6 +20,9 @@ abbrev pub Packs : List ℕ → List Pair → List Pair → Type 0
 Packs words old new = new ≡ laid_over (that_fit (length old) (pairs_of words)) old
 
 module _ (words : List ℕ) (old : List Pair) where
+  pub length_packed : (i : ℕ) → i ≤ length words / 2 → i ≤ length old → length (packed words old i) ≡ length old
+  length_packed i h k = length_laid_over (take i (pairs_of words)) old (rw (length-take-le i (pairs_of words) (rw length_pairs_of h)) k)
+
   pub packed_next : (i : ℕ) → i < length words / 2 → i < length old → set (packed words old i) i (get_or (pairs_of words) i no_pair) ≡ packed words old (i + 1)
   packed_next i h k =
       laid_over_next (take i (pairs_of words)) old (get_or (pairs_of words) i no_pair) i (length-take-le i (pairs_of words) (rw length_pairs_of (omega arith))) k

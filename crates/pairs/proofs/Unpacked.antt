@@ -1,6 +1,6 @@
 -- Laws of unpacking: what the lent words hold while i pairs are laid, and when all are. Assumes nothing.
 use mathlib.Core.Path.{◌≡◌, sym, ap, ◌∙◌}
-use Prim.Native.Nat.{ℕ, ◌+◌, ◌*◌, ◌/◌, ◌<◌}
+use Prim.Native.Nat.{ℕ, ◌+◌, ◌*◌, ◌/◌, ◌≤◌, ◌<◌}
 use native.Mathlib.Omega.{arith}
 use mathlib.Core.List.{List}
 use lib.ListN.{length, get_or, set, take}
@@ -8,11 +8,14 @@ use lib.Seq.{length-take-le, take_at}
 use Rattle.pairs.specs.declared.Pair.{Pair}
 use Rattle.pairs.specs.Pairs.{no_pair, flatten, pairs_of, laid_over, that_fit}
 use Rattle.pairs.proofs.FlatLists.{length_flatten, length_front, pairs_of_flatten, take_next}
-use Rattle.pairs.proofs.LaidOver.{laid_over_pair}
+use Rattle.pairs.proofs.LaidOver.{length_laid_over, laid_over_pair}
 
 -- the words when the first i pairs are laid
 abbrev pub laid : List Pair → List ℕ → ℕ → List ℕ
 laid ps old i = laid_over (flatten (take i ps)) old
+
+pub length_laid : (ps : List Pair) (old : List ℕ) (i : ℕ) → i ≤ length ps → 2 * i ≤ length old → length (laid ps old i) ≡ length old
+length_laid ps old i h k = length_laid_over (flatten (take i ps)) old (rw (length_flatten, length-take-le i ps h) k)
 
 pub laid_next : (ps : List Pair) (old : List ℕ) (i : ℕ) → i < length ps → 2 * i + 1 < length old
     → set (set (laid ps old i) (2 * i) (get_or ps i no_pair).gap) (2 * i + 1) (get_or ps i no_pair).size ≡ laid ps old (i + 1)

@@ -51,8 +51,10 @@ pub fn unpack(pairs: &[Pair], words: &mut [u16]) -> usize
     if words.len() / 2 < pairs.len() {
         return 0;
     }
-    // Stored by the index: of words written through `as_chunks_mut` std doesn't say what they hold afterwards.
-    for (i, pair) in pairs.iter().enumerate() {
+    // Stored by the index: of words written through `as_chunks_mut` std doesn't say what they hold afterwards. Each pair is taken by the index
+    // too, whole: so all of this is one copy of memory, which it is not with pairs lent by an iterator.
+    for i in 0..pairs.len() {
+        let pair = pairs[i];
         words[2 * i] = pair.gap;
         words[2 * i + 1] = pair.size;
     }
