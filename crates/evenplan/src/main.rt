@@ -3,7 +3,7 @@
 // what is read and written.
 #![tactic(auto)]
 
-ghost use Rattle.std.specs.Prelude.{ℕ, ◌≤◌, ◌≡◌, List, length, take, Some, Ok, IfOk, IfSome, OnOk};
+ghost use Rattle.std.specs.Prelude.{ℕ, ◌≤◌, ◌≡◌, ◌++◌, List, length, take, Some, Ok, IfOk, IfSome, OnOk};
 ghost use Rattle.std.specs.Io.KnownBytes.{Appends, IsAtEnd};
 ghost use Rattle.spec.specs.Refusals.{numbered};
 ghost use Rattle.plan.specs.Reports.{report_of};
@@ -40,6 +40,29 @@ impl fmt::Display for Line {
     }
 }
 
+// A line while it is put together. No line has more than 49 bytes.
+#[derive(Clone, Copy)]
+struct Text {
+    bytes: [u8; 80],
+    length: usize,
+    ghost fits: { length ≤ 80 },
+}
+
+impl fmt::Write for Text {
+    ghost write_str_gives = { λ s bytes t. take t.length t.bytes ≡ take s.length s.bytes ++ bytes };
+
+    // Nothing is held of what does not fit.
+    fn write_str(&mut self, s: &str) -> fmt::Result {
+        let end = self.length + s.len();
+        if self.bytes.len() < end {
+            return Err(fmt::Error);
+        }
+        self.bytes[self.length..end].copy_from_slice(s.as_bytes());
+        self.length = end;
+        Ok(())
+    }
+}
+
 // The first line of a plan.
 fn plan_line(p: Plan) -> Line
     requires { 1 ≤ p.count }
@@ -68,7 +91,15 @@ fn write_line<W: Write>(out: &mut W, front: &[u8], i: u32, line: Line) -> io::Re
     requires { text_of line ≡ line_of (even_of front.now) i }
     ensures { OnOk result (Appends (W.contents out.old) (W.contents out.new) (line_of (even_of front.now) i)) }
 {
-    write!(out, "{line}")
+    // Put together first, so that it goes out by one write: `write!` to the output would hand each number over by itself.
+    let mut text = Text {
+        bytes: [0; 80],
+        length: 0,
+    };
+    match fmt::Write::write_fmt(&mut text, line) {
+        Ok(()) => out.write_all(&text.bytes[..text.length]),
+        Err(_) => write!(out, "{line}"),
+    }
 }
 
 // The plan's line, then those of the reports of one period.

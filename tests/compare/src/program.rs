@@ -7,8 +7,11 @@ use crate::random::Random;
 use reference::{even, spec, Plan, Refusal};
 use std::fmt::Write as _;
 use std::io::Write as _;
+use std::os::fd::OwnedFd;
+use std::os::unix::net::UnixDatagram;
 use std::path::Path;
 use std::process::{Command, Stdio};
+use std::time::Duration;
 
 pub fn all(runner: &mut Runner, program: &Path) {
     let sample: &[u8] = &[0x0F, 0, 2, 0, 3, 0, 5, 0, 5, 0, 0x0F, 0, 0x1A, 0, 0x0A, 0, 0x14];
@@ -45,6 +48,15 @@ pub fn all(runner: &mut Runner, program: &Path) {
         checks.push((format!("{name}: {got:?}"), got.as_deref() == Ok(wanted)));
     }
     runner.fixed("evenplan on samples", &checks);
+    // Sizes and gaps of 1, and a record in any 20,160 minutes: the longest listing there is.
+    let most = [0x0B, 0, 1, 0, 1, 0, 1, 0, 1, 0, 1, 0x4E, 0xC0];
+    let whole = [("no bytes", &[][..]), ("B with 15", sample), ("20,160 reports", &most)].map(|(name, file)| {
+        let wanted = text(file).1;
+        let got = written(program, file, wanted.lines().count());
+        let lines: Vec<_> = wanted.split_inclusive('\n').map(str::as_bytes).collect();
+        (format!("{name}: {:?}", got.as_ref().map(Vec::len)), got.is_ok_and(|got| got == lines))
+    });
+    runner.fixed("evenplan writes each line at once", &whole);
     runner.random("evenplan on random specifications", RUNS / 100, &[0, 1, 2, 3, 4, 10, 24], |random, _| {
         let file = input(random);
         let (answer, wanted) = text(&file);
@@ -75,6 +87,21 @@ fn prints(program: &Path, input: &[u8]) -> Result<String, String> {
         return Err(format!("{}: {}, {:?}", program.display(), output.status, String::from_utf8_lossy(&output.stderr)));
     }
     String::from_utf8(output.stdout).map_err(|error| error.to_string())
+}
+
+/// What the program writes, write by write, of which there should be so many: each is a message of its own to a socket of messages.
+fn written(program: &Path, input: &[u8], writes: usize) -> std::io::Result<Vec<Vec<u8>>> {
+    let (ours, theirs) = UnixDatagram::pair()?;
+    ours.set_read_timeout(Some(Duration::from_secs(20)))?;
+    let mut process = Command::new(program).stdin(Stdio::piped()).stdout(OwnedFd::from(theirs)).spawn()?;
+    let sent = process.stdin.take().expect("a pipe").write_all(input);
+    let mut message = [0; 128];
+    let mut next = || ours.recv(&mut message).map(|length| message[..length].to_vec());
+    let got = sent.and_then(|()| (0..writes).map(|_| next()).collect());
+    // One that writes more often, or is never done, waits for a reader.
+    process.kill()?;
+    process.wait()?;
+    got
 }
 
 /// The answer and what the program should print.
