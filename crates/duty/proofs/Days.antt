@@ -1,6 +1,6 @@
 -- A day by its windows. Those of a day that keeps the rules are in order and do not overlap, so each open minute is in one of them, and past each
 -- minute of a window there is one more of it to count. Days follow each other in the week.
-use Prim.Native.Nat.{ℕ, zero, suc, ◌+◌, ◌*◌, ◌/◌, ◌%◌, ◌≤◌, ◌<◌}
+use Prim.Native.Nat.{ℕ, zero, suc, ◌+◌, ◌-◌, ◌*◌, ◌/◌, ◌%◌, ◌≤◌, ◌<◌}
 use native.Mathlib.Omega.{arith}
 use native.Mathlib.Nat.{add-zero, add_assoc, mod-eq_of_lt}
 use native.Mathlib.Numerals.{add-one}
@@ -9,7 +9,7 @@ use mathlib.Core.List.{List, []}
 use mathlib.Core.Bool.{true, cond}
 use lib.ListN.{get_or}
 use Rattle.std.proofs.lemmas.Bool.Decides.{nat_tests}
-use Rattle.duty.specs.Weeks.{Table, day_right, day_open, is_open, open_before}
+use Rattle.duty.specs.Weeks.{Table, part, day_right, day_open, is_open, open_before}
 use Rattle.duty.specs.Windows.{day_before, IsDayMinute, IsWeekMinute}
 use Rattle.duty.proofs.OpenMinutes.{before_more}
 
@@ -22,6 +22,11 @@ module _ (day : List ℕ) (right : day_right day ≡ true) where
   day_step : (x : ℕ) → day_before day (x + 1) ≡ day_before day x + cond (day_open day x) 1 0
   unfolding day_right day_before day_open
   day_step x = grind (arith, nat_tests)
+
+  -- a whole day has the minutes of its windows
+  pub day_whole : day_before day 1_440 ≡ (part day 1 - part day 0) + (part day 3 - part day 2)
+  unfolding day_right day_before
+  day_whole = grind (arith, nat_tests)
 
 -- day k of a week, where it keeps the rules
 module _ (table : Table) (k : ℕ) (inside : k < 7) (right : day_right (get_or table k []) ≡ true) where

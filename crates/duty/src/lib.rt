@@ -42,7 +42,7 @@ struct Week {
 fn window_right(opens: u16, closes: u16) -> bool
     ensures { result ≡ window_right opens closes }
 {
-    opens == 0 && closes == 0 || opens < closes && closes <= 1440
+    ((opens == 0) & (closes == 0)) | ((opens < closes) & (closes <= 1440))
 }
 
 #[tactic(auto, unfolding(crate::specs::Weeks::day_right))]
@@ -50,10 +50,10 @@ fn day_right(numbers: [u16; 4]) -> bool
     ensures { result ≡ day_right numbers }
 {
     let [opens, closes, opens_again, closes_again] = numbers;
-    let none = opens_again == 0 && closes_again == 0;
+    let none = (opens_again == 0) & (closes_again == 0);
     window_right(opens, closes)
-        && window_right(opens_again, closes_again)
-        && (none || closes <= opens_again)
+        & window_right(opens_again, closes_again)
+        & (none | (closes <= opens_again))
 }
 
 impl Window {
