@@ -458,7 +458,7 @@ pub fn maxeltu_read_cycle(file: &[u8], places: &mut [Pair], count: &mut u32) -> 
             *count = n as u32;
             0
         }
-        Err(refusal) => refusal.number(),
+        Err(refused) => refused.number(),
     }
 }
 

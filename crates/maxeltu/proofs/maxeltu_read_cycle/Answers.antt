@@ -5,6 +5,7 @@ use mathlib.Core.Path.{◌≡◌, refl, sym}
 use lib.ListN.{length, replicate, length-replicate}
 use lib.Seq.{length-take-le}
 use Rattle.std.specs.Prelude.{Ok}
+use Rattle.std.proofs.Common.{rules}
 use Rattle.cyclefile.proofs.ReadWords.{FrontPairs, within, words_read, words_refused}
 use Rattle.maxeltu.proofs.ListReadings.{packed_read}
 use Rattle.maxeltu.proofs.maxeltu_read_cycle.Goals.{After-read}
@@ -31,4 +32,4 @@ returns-in-Ok c = packed_read c.args.file.now c.args.places.now _ c.args.count.n
 
 pub returns-in-Err : goal.returns-in-Err
 returns-in-Err c =
-    rw (words_refused (length c.args.places.now) _ (replicate 1024 0) (length-replicate {A = ℕ} 1024 0) c.in-Err.ensures.answer) (c.number.ensures, refl, refl)
+    rw (words_refused (length c.args.places.now) _ (replicate 1024 0) (length-replicate {A = ℕ} 1024 0) c.in-Err.ensures.answer) (c.number.ensures, search rules, refl)
